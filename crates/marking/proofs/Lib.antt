@@ -1,0 +1,3 @@
+mod Alike
+mod Claims
+mod Counts

@@ -1,0 +1,5 @@
+pub mod Shifts
+pub mod Scans
+pub mod Proved
+pub mod Mapped
+pub mod Order

@@ -1,0 +1,4 @@
+pub mod Ids
+pub mod Tables
+pub mod Meaning
+pub mod Laws
