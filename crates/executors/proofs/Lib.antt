@@ -1,0 +1,4 @@
+pub mod Ticks
+pub mod JobRows
+pub mod Scans
+pub mod Running

@@ -1,0 +1,4 @@
+pub mod Entries
+pub mod Edits
+pub mod Coming
+pub mod Growth
