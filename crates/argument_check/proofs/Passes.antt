@@ -15,6 +15,7 @@ use Rattle.std.proofs.shelf.Tests.{cases-bool, cases-eq, cases-order, and-parts
 use Rattle.std.proofs.shelf.Ways.{tells}
 use Rattle.std.specs.declared.option.Option.{Option}
 use Rattle.std.specs.declared.option.Option.the-variants.{Some, None}
+use Rattle.table.proofs.Absurd.{none≢some}
 use Rattle.compactions.specs.Entries.{Entry, Source, run, view, Spec, tiered, drain}
 use Rattle.compactions.specs.Trees.{View, Run, Tree, Segment, Manifest, views-of, runs-of}
 use Rattle.compactions.specs.Prefixes.{before, rises}
@@ -23,10 +24,6 @@ use Rattle.compactions.specs.Trees.{named, tree-for}
 use Rattle.argument_check.specs.Check.{last-under, both, adding, found, asked-view, asked-run, last-is, into-last, args-with, args-by, job-args}
 use Rattle.argument_check.specs.Answers.{Answer, passes, refused, checked}
 use Rattle.argument_check.specs.Passing.{Member, Tree-of, Present, asked-views, asked-runs, Last-with, Last-each, Into-last, Startable, Started-with, Passing}
-
--- two different constructors
-none≢some : {A : Type 0} {x : A} → None ≡ Some x → ⊥
-none≢some e = let z : _≡_ {A = ℕ} 0 1 = cc in omega arith
 
 -- the order of prefixes
 

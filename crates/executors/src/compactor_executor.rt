@@ -32,7 +32,7 @@ pub enum WorkerMessage {
 
 impl WorkerMessage {
     // The job that the notice is of.
-    pub fn id(&self) -> Ulid
+    pub(crate) fn id(&self) -> Ulid
         ensures { λ r. ⌜ number r ≡ notice-id (notice-of (now (self .entry))) ⌝ }
     {
         match self {

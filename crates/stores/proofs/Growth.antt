@@ -9,14 +9,12 @@ use lib.Dec.{eqb, ltb}
 use Rattle.std.proofs.shelf.Tests.{eqb-true}
 use Rattle.std.specs.declared.option.Option.{Option}
 use Rattle.std.specs.declared.option.Option.the-variants.{Some, None}
+use Rattle.table.proofs.Absurd.{none≢some}
 use Rattle.compactions.specs.Entries.{Entry}
 use Rattle.table.specs.Tables.{holds, put, admits, strike}
 use Rattle.stores.specs.Records.{Record, entry-id, last-version, most-entries, raised}
 use Rattle.stores.specs.Stores.{Store, Edit, create, puts, removes, Outcome, clear, down, lost, Interference, edited, all-edited, settled, next-interference, later, updating, read, got, read-answer, Replacing, replacing, update, update-going, landed, conflict, unwritten, Write}
 use Rattle.stores.specs.StoreLaws.{Grows, Reached, here, by-read, by-update, Store-laws}
-
-none≢some : {A : Type 0} {x : A} → None ≡ Some x → ⊥
-none≢some e = let z : _≡_ {A = ℕ} 0 1 = cc in omega arith
 
 grows-same : (c : Option Record) → Grows c c
 grows-same None = tt

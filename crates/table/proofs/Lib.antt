@@ -3,3 +3,4 @@ pub mod Scans
 pub mod Proved
 pub mod Mapped
 pub mod Order
+pub mod Absurd
