@@ -1,4 +1,6 @@
 // A paper from its text, section by section.
+ghost use Rattle.std.specs.Text.{Utf8};
+ghost use Rattle.std.specs.Vec.{made};
 use crate::entry_lines::EntryDraft;
 use crate::error::PaperError;
 use crate::error::Problem;
@@ -148,13 +150,15 @@ impl Reader {
 }
 
 // The text, if it is UTF-8.
-fn text_in(bytes: &[u8]) -> Result<&str, PaperError> {
+fn text_in(bytes: &[u8]) -> Result<&str, PaperError>
+    ensures { λ r. ⌜ made r (λ _. Utf8 (now (bytes .entry))) ⌝ }
+{
     match from_utf8(bytes) {
         Ok(text) => Ok(text),
-        Err(error) => at_line(
-            line_at(bytes, error.valid_up_to()),
-            Err(Problem::Paper(InPaper::Utf8)),
-        ),
+        Err(error) => Err(PaperError {
+            line: line_at(bytes, error.valid_up_to()),
+            problem: Problem::Paper(InPaper::Utf8),
+        }),
     }
 }
 
@@ -171,7 +175,9 @@ fn line_at(bytes: &[u8], index: usize) -> usize {
 
 impl Paper {
     // A line ends at LF, and a CR before that is no part of it; the last line needs no LF.
-    pub fn read(heap: Global, bytes: &[u8]) -> Result<Paper, PaperError> {
+    pub fn read(heap: Global, bytes: &[u8]) -> Result<Paper, PaperError>
+        ensures { λ r. ⌜ made r (λ _. Utf8 (now (bytes .entry))) ⌝ }
+    {
         let text = text_in(bytes)?;
         let lines = text.split('\n').count();
         let mut reader = Reader::new(heap);
