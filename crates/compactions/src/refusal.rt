@@ -4,7 +4,7 @@ ghost use Rattle.compactions.specs.Refusals.{number-of};
 
 #[derive(Clone, Copy)]
 pub enum Refusal {
-    // an entry, a context or a sorted run would have more parts than it may
+    // an entry, a context, a sorted run or a record would have more parts than it may
     Count,
     // a manifest would
     ManifestCount,
