@@ -17,6 +17,7 @@ FUNCTIONS = set("admits ascends drop first_with get_or goes holds insert length 
 TOKEN = re.compile(r"[^\s(){}\[\].,;:=|«»⌜⌝\"]+")
 DEFINED = re.compile(r"^\s*(?:(?:abbrev|unfoldable|pub|data|record)\s+)*([^\s(){}\[\].,;:=|]+-[^\s(){}\[\].,;:=|]+)(?:\s[^:]*)?\s:\s(.*)$")
 MADE = re.compile(r"^(goal|need)\.|^_$")
+MADE_NAME = re.compile(r"^(invariant|decreases)-")
 RESERVED = {"first_of", "search", "grind", "simp", "omega", "rw", "cc", "hlevel", "assumption", "ground"}
 
 
@@ -40,7 +41,7 @@ def own_names(root):
         to = specs if "/specs/" in path else lemmas
         for line in text_of(path).splitlines():
             m = DEFINED.match(line)
-            if m and "--" not in m.group(1) and not MADE.match(m.group(2).strip()):
+            if m and "--" not in m.group(1) and not MADE_NAME.match(m.group(1)) and not MADE.match(m.group(2).strip()):
                 to.add(m.group(1))
     return specs, lemmas
 

@@ -8,7 +8,7 @@ use crate::ulid::Ulid;
 
 // The place of the first row whose id is not before `id`.
 pub(crate) fn place<R: Row>(rows: &[R], id: Ulid) -> usize
-    ensures { result ≡ first_with (not_before (by named) (number id)) rows.now }
+    ensures { result ≡ first_with (not_before (by R.named) (number id)) rows.now }
 {
     for (i, row) in rows.iter().enumerate() {
         if !row.id().is_before(id) {
@@ -20,7 +20,7 @@ pub(crate) fn place<R: Row>(rows: &[R], id: Ulid) -> usize
 
 // The place of the first row whose id is `id`.
 pub(crate) fn spot<R: Row>(rows: &[R], id: Ulid) -> usize
-    ensures { result ≡ first_with (named_so (by named) (number id)) rows.now }
+    ensures { result ≡ first_with (named_so (by R.named) (number id)) rows.now }
 {
     for (i, row) in rows.iter().enumerate() {
         if row.id().is(id) {
@@ -32,7 +32,7 @@ pub(crate) fn spot<R: Row>(rows: &[R], id: Ulid) -> usize
 
 // The row with an id, of rows that are only read.
 pub fn find<R: Row>(rows: &[R], id: Ulid) -> Option<R>
-    ensures { result ≡ lookup (by named) (number id) rows.now }
+    ensures { result ≡ lookup (by R.named) (number id) rows.now }
 {
     let at = spot(rows, id);
     if at < rows.len() {

@@ -16,7 +16,7 @@ impl<'a, R: Row> Table<'a, R> {
         ensures rows { rows_of result ≡ take len rows.old }
         ensures room { room_of result ≡ length rows.old }
         ensures lender { result.rows.ghost_name ≡ rows.entry.ghost_name }
-        ensures laws { Lawful (by named) }
+        ensures laws { Lawful (by R.named) }
     {
         let len = len.min(rows.len());
         Table { rows, len }
@@ -51,33 +51,33 @@ impl<'a, R: Row> Table<'a, R> {
 
     // The place of the first row whose id is not before `id`.
     fn place(&self, id: Ulid) -> usize
-        ensures { result ≡ first_with (not_before (by named) (number id)) (rows_of self.now) }
+        ensures { result ≡ first_with (not_before (by R.named) (number id)) (rows_of self.now) }
     {
         scan::place(&self.rows[0..self.len], id)
     }
 
     // The place of the first row whose id is `id`.
     fn spot(&self, id: Ulid) -> usize
-        ensures { result ≡ first_with (named_so (by named) (number id)) (rows_of self.now) }
+        ensures { result ≡ first_with (named_so (by R.named) (number id)) (rows_of self.now) }
     {
         scan::spot(&self.rows[0..self.len], id)
     }
 
     pub fn get(&self, id: Ulid) -> Option<R>
-        ensures { result ≡ lookup (by named) (number id) (rows_of self.now) }
+        ensures { result ≡ lookup (by R.named) (number id) (rows_of self.now) }
     {
         scan::find(self.as_slice(), id)
     }
 
     pub fn holds(&self, id: Ulid) -> bool
-        ensures { result ≡ holds (by named) (number id) (rows_of self.now) }
+        ensures { result ≡ holds (by R.named) (number id) (rows_of self.now) }
     {
         self.spot(id) < self.len
     }
 
     // Whether the row at a place has the id.
     fn is_at(&self, at: usize, id: Ulid) -> bool
-        ensures { result ≡ hits (by named) (number id) (slice_get (rows_of self.now) at) }
+        ensures { result ≡ hits (by R.named) (number id) (slice_get (rows_of self.now) at) }
     {
         match self.at(at) {
             Some(row) => row.id().is(id),
@@ -129,10 +129,10 @@ impl<'a, R: Row> Table<'a, R> {
     }
 
     pub fn put(&mut self, row: R) -> Result<(), Full>
-        ensures value { is_ok result ≡ admits (by named) (room_of self.old) row (rows_of self.old) }
-        ensures after { rows_of self.new ≡ (if is_ok result then put (by named) row (rows_of self.old) else rows_of self.old) }
+        ensures value { is_ok result ≡ admits (by R.named) (room_of self.old) row (rows_of self.old) }
+        ensures after { rows_of self.new ≡ (if is_ok result then put (by R.named) row (rows_of self.old) else rows_of self.old) }
         ensures room { room_of self.new ≡ room_of self.old }
-        ensures ordered { ascends (by named) (rows_of self.old) ≡ true → ascends (by named) (rows_of self.new) ≡ true }
+        ensures ordered { ascends (by R.named) (rows_of self.old) ≡ true → ascends (by R.named) (rows_of self.new) ≡ true }
         ensures lender { self.new.rows.ghost_name ≡ self.old.rows.ghost_name }
     {
         let id = row.id();
@@ -149,10 +149,10 @@ impl<'a, R: Row> Table<'a, R> {
     }
 
     pub fn strike(&mut self, id: Ulid) -> bool
-        ensures value { result ≡ holds (by named) (number id) (rows_of self.old) }
-        ensures after { rows_of self.new ≡ strike (by named) (number id) (rows_of self.old) }
+        ensures value { result ≡ holds (by R.named) (number id) (rows_of self.old) }
+        ensures after { rows_of self.new ≡ strike (by R.named) (number id) (rows_of self.old) }
         ensures room { room_of self.new ≡ room_of self.old }
-        ensures ordered { ascends (by named) (rows_of self.old) ≡ true → ascends (by named) (rows_of self.new) ≡ true }
+        ensures ordered { ascends (by R.named) (rows_of self.old) ≡ true → ascends (by R.named) (rows_of self.new) ≡ true }
         ensures lender { self.new.rows.ghost_name ≡ self.old.rows.ghost_name }
     {
         let spot = self.spot(id);

@@ -3,5 +3,5 @@ use Rattle.compactions.specs.Meanings.{sub_of}
 use Rattle.worker_steps.specs.Extending.{subs_extend}
 use Rattle.worker_steps.proofs.context.subcompactions_extend.Given as goal
 
-abbrev pub invariant_loop_i : goal.invariant_loop_i
-invariant_loop_i l = subs_extend (map sub_of (drop l.i l.old)) (map sub_of (drop l.i l.new)) ≡ subs_extend (map sub_of l.old) (map sub_of l.new)
+abbrev pub invariant-loop-i : goal.invariant-loop-i
+invariant-loop-i l = subs_extend (map sub_of (drop l.i l.old)) (map sub_of (drop l.i l.new)) ≡ subs_extend (map sub_of l.old) (map sub_of l.new)

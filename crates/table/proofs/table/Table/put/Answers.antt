@@ -58,7 +58,7 @@ returns g c =
     let xs = rows_of c.args.self.now in
     let n : length xs ≡ c.args.self.now.len = search rules in
     let e = ap number c.id-id.ensures in
-    let h = sym c.is-at.ensures ∙ c.if-is-at.false in
+    let h = sym c.is_at.ensures ∙ c.if-is_at.false in
     let f = eqb-false _ _ (sym c.is-full.ensures ∙ c.if-is-full.false) in
     let after = c.insert-at.ensures.after ∙ sym (between_is_put key c.args.row _ _ xs e c.place-at.ensures h) in
     record {

@@ -36,11 +36,11 @@ returns g c =
     let xs = rows_of c.args.self.now in
     let n : length xs ≡ c.args.self.now.len = search rules in
     let w = first_with_within (named_so key k) xs in
-    let after = c.remove-at.ensures.after ∙ ap (remove xs) c.spot-spot.ensures ∙ sym (strike_at key k xs) in
+    let after = c.remove_at.ensures.after ∙ ap (remove xs) c.spot-spot.ensures ∙ sym (strike_at key k xs) in
     record {
       value = sym (holds_at key k xs ∙ lt-ltb _ _ (omega arith));
       after = after;
-      room = c.remove-at.ensures.room;
+      room = c.remove_at.ensures.room;
       ordered = λ a. ap (ascends key) after ∙ strike_ascends key k xs a;
-      lender = c.remove-at.ensures.lender;
+      lender = c.remove_at.ensures.lender;
     }

@@ -4,5 +4,5 @@ use Rattle.stores.specs.Meanings.{draft_of}
 use Rattle.worker_steps.specs.Owning.{runs_at}
 use Rattle.worker.proofs.left_behind.LeftBehind.keep_running.Given as goal
 
-abbrev pub invariant_loop_i : goal.invariant_loop_i
-invariant_loop_i l = FiltersInPlace (λ u. runs_at l.number (draft_of l.draft).entries (number u)) l.self.ids l.ids l.count l.i
+abbrev pub invariant-loop-i : goal.invariant-loop-i
+invariant-loop-i l = FiltersInPlace (λ u. runs_at l.number (draft_of l.draft).entries (number u)) l.self.ids l.ids l.count l.i
