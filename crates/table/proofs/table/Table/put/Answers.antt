@@ -7,35 +7,35 @@ use Rattle.table.proofs.Order.{put_ascends}
 use Rattle.table.proofs.Scans.{hits_within, first_with_within, over_is_put, over_is_admitted, between_is_put, between_is_admitted}
 use Rattle.table.proofs.table.Table.put.Goals as goal
 
-pub write-at-requires : goal.write-at-requires
-write-at-requires g c =
+pub write_at-requires : goal.write_at-requires
+write_at-requires g c =
     let xs = rows_of c.args.self.now in
     let n : length xs ≡ c.args.self.now.len = search rules in
     let w = hits_within (by g.R.Row.named) (number c.id-id.result) xs c.place-at.result (cc) in
     omega arith
 
-pub returns-then-is-at : goal.returns-then-is-at
-returns-then-is-at g c =
+pub returns-then-is_at : goal.returns-then-is_at
+returns-then-is_at g c =
     let key = by g.R.Row.named in
     let xs = rows_of c.args.self.now in
     let e = ap number c.id-id.ensures in
-    let h = sym c.is-at.ensures ∙ c.if-is-at.true in
-    let after = c.write-at.ensures.after ∙ sym (over_is_put key c.args.row _ _ xs e c.place-at.ensures h) in
+    let h = sym c.is_at.ensures ∙ c.if-is_at.true in
+    let after = c.write_at.ensures.after ∙ sym (over_is_put key c.args.row _ _ xs e c.place-at.ensures h) in
     record {
       value = sym (over_is_admitted key c.args.row _ _ xs e c.place-at.ensures _ (search rules) h);
       after = after;
-      room = c.write-at.ensures.room;
+      room = c.write_at.ensures.room;
       ordered = λ a. ap (ascends key) after ∙ put_ascends key c.args.row xs a;
-      lender = c.write-at.ensures.lender;
+      lender = c.write_at.ensures.lender;
     }
 
-pub returns-then-is-full : goal.returns-then-is-full
-returns-then-is-full g c =
+pub returns-then-is_full : goal.returns-then-is_full
+returns-then-is_full g c =
     let key = by g.R.Row.named in
     let xs = rows_of c.args.self.now in
     let e = ap number c.id-id.ensures in
-    let h = sym c.is-at.ensures ∙ c.if-is-at.false in
-    let f = eqb-true _ _ (sym c.is-full.ensures ∙ c.if-is-full.true) in
+    let h = sym c.is_at.ensures ∙ c.if-is_at.false in
+    let f = eqb-true _ _ (sym c.is_full.ensures ∙ c.if-is_full.true) in
     record {
       value = sym (between_is_admitted key c.args.row _ _ xs e c.place-at.ensures _ h ∙ le-ltb _ _ (omega arith));
       after = search rules;
@@ -44,12 +44,12 @@ returns-then-is-full g c =
       lender = search rules;
     }
 
-pub insert-at-requires : goal.insert-at-requires
-insert-at-requires g c =
+pub insert_at-requires : goal.insert_at-requires
+insert_at-requires g c =
     let xs = rows_of c.args.self.now in
     let n : length xs ≡ c.args.self.now.len = search rules in
     let w = first_with_within (not_before (by g.R.Row.named) (number c.id-id.result)) xs in
-    let f = eqb-false _ _ (sym c.is-full.ensures ∙ c.if-is-full.false) in
+    let f = eqb-false _ _ (sym c.is_full.ensures ∙ c.if-is_full.false) in
     record { room = omega arith; within = omega arith }
 
 pub returns : goal.returns
@@ -59,12 +59,12 @@ returns g c =
     let n : length xs ≡ c.args.self.now.len = search rules in
     let e = ap number c.id-id.ensures in
     let h = sym c.is_at.ensures ∙ c.if-is_at.false in
-    let f = eqb-false _ _ (sym c.is-full.ensures ∙ c.if-is-full.false) in
-    let after = c.insert-at.ensures.after ∙ sym (between_is_put key c.args.row _ _ xs e c.place-at.ensures h) in
+    let f = eqb-false _ _ (sym c.is_full.ensures ∙ c.if-is_full.false) in
+    let after = c.insert_at.ensures.after ∙ sym (between_is_put key c.args.row _ _ xs e c.place-at.ensures h) in
     record {
       value = sym (between_is_admitted key c.args.row _ _ xs e c.place-at.ensures _ h ∙ lt-ltb _ _ (omega arith));
       after = after;
-      room = c.insert-at.ensures.room;
+      room = c.insert_at.ensures.room;
       ordered = λ a. ap (ascends key) after ∙ put_ascends key c.args.row xs a;
-      lender = c.insert-at.ensures.lender;
+      lender = c.insert_at.ensures.lender;
     }

@@ -22,8 +22,8 @@ returns-then-spot-self g c =
       lender = search rules;
     }
 
-pub remove-at-requires : goal.remove-at-requires
-remove-at-requires g c =
+pub remove_at-requires : goal.remove_at-requires
+remove_at-requires g c =
     let xs = rows_of c.args.self.now in
     let n : length xs ≡ c.args.self.now.len = search rules in
     let w = first_with_within (named_so (by g.R.Row.named) (number c.args.id)) xs in
