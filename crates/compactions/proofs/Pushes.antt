@@ -1,5 +1,5 @@
 -- One item more in counted rows, seen through the meaning of the items and of what holds the rows.
-use Rattle.std.proofs.Common.{◌≡◌, ℕ, ◌<◌, Bool, true, false, cond, ltb, List, [], ◌∷◌, ◌++◌, map, length, is_ok, Ok, Err, Option, Result, sym, refl, ap, ◌∙◌, arith}
+use Rattle.std.proofs.Common.{◌≡◌, ℕ, ◌<◌, Bool, true, false, cond, ltb, List, [], ◌∷◌, ◌++◌, map, length, is_ok, Ok, Err, Option, Result, ap, ◌∙◌, arith}
 use Rattle.std.proofs.lemmas.Bool.{lt-ltb}
 use Rattle.compactions.specs.declared.refusal.Refusal.{Refusal}
 use Rattle.std.proofs.lemmas.List.{map_push, length-map}

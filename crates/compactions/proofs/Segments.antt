@@ -1,9 +1,8 @@
 -- Segments in the order of their prefixes: the last one, one more, and the one with a prefix.
-use Rattle.std.proofs.Common.{◌≡◌, ℕ, suc, ◌+◌, ◌-◌, ◌<◌, ◌≤◌, Bool, true, false, cond, ◌&&◌, eqb, List, [], ◌∷◌, ◌++◌, map, length, get_or, drop, Some, None, Decides, Option, sym, refl, ap, ◌∙◌, arith, rules}
+use Rattle.std.proofs.Common.{◌≡◌, ℕ, suc, ◌+◌, ◌-◌, ◌<◌, ◌≤◌, Bool, true, false, cond, ◌&&◌, eqb, List, [], ◌∷◌, ◌++◌, map, length, get_or, drop, Some, None, Option, refl, arith}
 use Rattle.std.proofs.lemmas.List.{drop_more, drop_all, map_push}
 use Rattle.std.proofs.lemmas.Bool.{cases_Bool, true≢false}
 use Rattle.std.specs.Str.{bytes_eq}
-use Rattle.std.proofs.lemmas.Slice.Eq.{bytes_eq-Decides}
 use Rattle.compactions.specs.Refusals.{unless, unless_either}
 use Rattle.compactions.specs.Trees.{Tree, Segment, Manifest}
 use Rattle.compactions.specs.Prefixes.{before, rises, latest}
@@ -28,10 +27,6 @@ rises_push first (p ∷ ps) q r b =
 -- so one segment more keeps the order
 pub rises_more : {S : Type 0} (prefix : S → List ℕ) (xs xs' : List S) (x : S) (q : List ℕ) → rises [] (map prefix xs) ≡ true → xs' ≡ xs ++ (x ∷ []) → prefix x ≡ q → before (latest [] (map prefix xs)) q ≡ true → rises [] (map prefix xs') ≡ true
 rises_more prefix xs xs' x q r e p b = rw (e, map_push prefix xs x, p) (rises_push [] (map prefix xs) q r b)
-
--- a test that decides whether two prefixes are equal
-pub tested : (p q : List ℕ) (r : Bool) → Decides r (p ≡ q) → r ≡ bytes_eq p q
-tested p q r h = search (rules, bytes_eq-Decides)
 
 -- a prefix that is not empty is looked up among the segments
 pub tree_for_named : (p : List ℕ) (m : Manifest) → eqb (length p) 0 ≡ false → named p m.segments ≡ tree_for p m

@@ -1,5 +1,5 @@
 -- What the code's values mean.
-use Rattle.std.specs.Prelude.{ℕ, List, map}
+use Rattle.std.specs.Prelude.{ℕ, map}
 use Rattle.std.specs.Option.{option_map}
 use Rattle.compactions.specs.declared.compactor_state.SourceId.{SourceId}
 use Rattle.compactions.specs.declared.compactor_state.SourceId.TheVariants as sources

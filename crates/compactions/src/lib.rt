@@ -1,4 +1,6 @@
 // Compaction jobs and manifests as values of fixed size.
+#![tactic(auto)]
+
 pub mod compactor_state;
 pub mod db_state;
 pub mod job_args;

@@ -3,7 +3,7 @@ ghost use Rattle.std.specs.Prelude.{◌≡◌, ◌≤◌, length};
 
 mod methods;
 
-#[derive(Clone, Copy)]
+#[derive(Copy)]
 pub struct Rows<T, const N: usize> {
     items: [T; N],
     len: usize,

@@ -1,9 +1,21 @@
-ghost use Rattle.std.specs.Prelude.{◌≡◌, [], ◌∷◌, ◌++◌, length, is_ok, IfOk, if◌then◌else◌, nat_le, nat_lt};
+ghost use Rattle.std.specs.Prelude.{◌≡◌, [], ◌∷◌, ◌++◌, length, is_ok, IfOk, if◌then◌else◌, nat_le, nat_lt, ⊤};
 ghost use Rattle.compactions.specs.Counted.{items_of};
 ghost use Rattle.compactions.specs.Refusals.{refused_with, number_of, unless};
 
 use super::Rows;
 use crate::refusal::Refusal;
+use std::alloc::AllocError;
+
+// By hand, since a derive gives none beside a ghost field.
+impl<T: Copy, const N: usize> Clone for Rows<T, N> {
+    ghost is_clone = { λ x y. y ≡ x };
+
+    ghost is_infallible = { λ _. ⊤ };
+
+    fn clone(&self) -> Result<Rows<T, N>, AllocError> {
+        Ok(*self)
+    }
+}
 
 impl<T: Copy, const N: usize> Rows<T, N> {
     // None yet; `blank` fills the places that do not count.

@@ -1,4 +1,3 @@
-use Rattle.std.proofs.Common.{rules}
 use Rattle.compactions.proofs.Walks.{before_longer, before_apart, before_more, before_end}
 use Rattle.compactions.proofs.prefix.is_below.Goals as goal
 

@@ -1,4 +1,4 @@
-use Rattle.std.proofs.Common.{◌≡◌, true, ltb, length, sym, arith, rules}
+use Rattle.std.proofs.Common.{◌≡◌, true, ltb, length, arith, rules}
 use Rattle.std.proofs.lemmas.List.{take_more_set}
 use Rattle.std.proofs.lemmas.Bool.{lt-ltb}
 use Rattle.compactions.specs.Counted.{items_of}

@@ -1,4 +1,4 @@
-use Rattle.std.proofs.Common.{◌≡◌, take, sym, refl, ap, ◌∙◌}
+use Rattle.std.proofs.Common.{take, refl, ap, ◌∙◌}
 use Rattle.table.specs.Ids.{by}
 use Rattle.table.proofs.Proved.{lawful}
 use Rattle.table.proofs.Shifts.{take_min}

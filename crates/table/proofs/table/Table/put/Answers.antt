@@ -1,7 +1,7 @@
-use Rattle.std.proofs.Common.{◌≡◌, length, sym, ap, ◌∙◌, subst, arith, rules}
+use Rattle.std.proofs.Common.{◌≡◌, length, sym, ap, ◌∙◌, arith, rules}
 use Rattle.std.proofs.lemmas.Bool.{lt-ltb, le-ltb, eqb-true, eqb-false}
 use Rattle.table.specs.Ids.{by, number}
-use Rattle.table.specs.Meaning.{rows_of, room_of}
+use Rattle.table.specs.Meaning.{rows_of}
 use Rattle.table.specs.Tables.{ascends, not_before}
 use Rattle.table.proofs.Order.{put_ascends}
 use Rattle.table.proofs.Scans.{hits_within, first_with_within, over_is_put, over_is_admitted, between_is_put, between_is_admitted}
