@@ -1,5 +1,5 @@
 -- The argument check over values and over their meanings.
-use Rattle.std.proofs.Common.{◌≡◌, ℕ, suc, ◌-◌, ◌<◌, Bool, true, false, cond, eqb, List, [], ◌∷◌, ◌++◌, map, length, get_or, ℤ, Some, None, Option, sym, refl, ap, ◌∙◌, arith}
+use Rattle.std.proofs.Common.{◌≡◌, ℕ, suc, ◌-◌, ◌<◌, Bool, true, false, cond, eqb, List, [], ◌∷◌, map, length, get_or, ℤ, Some, None, Option, refl, ap, ◌∙◌, arith}
 use Rattle.std.specs.Option.{option_map}
 use Rattle.compactions.specs.Entries.{Entry, Source, Spec, tiered, drain, spec_segment, spec_sources, spec_destination}
 use Rattle.compactions.specs.Trees.{View, Run, Tree, Manifest, views_of, runs_of}

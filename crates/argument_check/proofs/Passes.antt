@@ -1,19 +1,18 @@
 -- The argument check passes exactly the startable entries.
-use Rattle.std.proofs.Common.{◌≡◌, ℕ, ◌<◌, Bool, true, false, cond, ◌&&◌, eqb, ltb, ◌⊎◌, List, [], ◌∷◌, ◌++◌, map, Some, None, Decides, Option, sym, refl, ap, ◌∙◌, subst, inl, inr, ⊎_elim, arith, rules}
+use Rattle.std.proofs.Common.{◌≡◌, ℕ, true, eqb, ◌⊎◌, List, [], ◌∷◌, ◌++◌, map, Some, None, Decides, Option, sym, refl, ap, ◌∙◌, subst, inl, inr, ⊎_elim, arith}
 use Rattle.std.specs.List.{AllByRecursion}
 use Rattle.std.specs.Str.{bytes_eq}
 use Rattle.std.proofs.lemmas.Slice.Eq.{bytes_eq-Decides}
-use Rattle.std.proofs.lemmas.Bool.{cases_Bool, cases_eq, cases_order, and_parts, eqb-true, eqb-false, eq-eqb, ne_eqb, ltb-true, lt-ltb, le-ltb, false≢true}
+use Rattle.std.proofs.lemmas.Bool.{cases_Bool, cases_order, and_parts, eqb-true, eqb-false, eq-eqb, le-ltb, false≢true}
 use Rattle.std.proofs.lemmas.Bool.Decides.{nat_tests}
 use Rattle.table.proofs.Absurd.{none≢some}
 use Rattle.compactions.specs.Entries.{Entry, Source, run, view, Spec, tiered, drain}
 use Rattle.compactions.specs.Trees.{View, Run, Tree, Segment, Manifest, views_of, runs_of}
 use Rattle.compactions.specs.Prefixes.{before, rises}
-use Rattle.compactions.specs.Jobs.{Args}
 use Rattle.compactions.specs.Trees.{named, tree_for}
 use Rattle.argument_check.specs.Check.{last_under, both, adding, found, asked_view, asked_run, last_is, into_last, args_with, args_by, job_args}
-use Rattle.argument_check.specs.Answers.{Answer, passes, refused, checked}
-use Rattle.argument_check.specs.Passing.{Member, TreeOf, Present, asked_views, asked_runs, LastWith, LastEach, IntoLast, Startable, StartedWith, Passing}
+use Rattle.argument_check.specs.Answers.{Answer, checked}
+use Rattle.argument_check.specs.Passing.{Member, TreeOf, Present, asked_views, asked_runs, LastWith, LastEach, IntoLast, Startable, Passing}
 
 -- the order of prefixes
 

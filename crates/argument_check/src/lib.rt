@@ -2,6 +2,8 @@
 //
 // Reworked from `build_job_args` in src/compaction_worker.rs of slatedb 0.16.0 (Apache-2.0, see
 // NOTICE); changed: a missing source is told by the look-up itself.
+#![tactic(auto)]
+
 ghost use Rattle.std.specs.Prelude.{◌≡◌, map};
 ghost use Rattle.std.specs.Option.{option_map};
 ghost use Rattle.compactions.specs.Trees.{views_of, runs_of};

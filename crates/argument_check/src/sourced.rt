@@ -92,7 +92,7 @@ impl Sourced for SortedRun {
 
 // The last of the rows with a key.
 fn last_with<R: Sourced>(rows: &[R], key: R::Key) -> Option<R>
-    ensures { result ≡ last_under named (R.Key.Key.value key) rows.now None }
+    ensures { result ≡ last_under R.named (R.Key.Key.value key) rows.now None }
 {
     let mut last = None;
     for row in rows {
@@ -106,7 +106,7 @@ fn last_with<R: Sourced>(rows: &[R], key: R::Key) -> Option<R>
 // The rows that the sources ask for, in the sources' order; none where one is missing.
 pub(crate) fn look_up<R: Sourced>(sources: &[SourceId], rows: &[R], blank: R) -> Option<Rows<R, 8>>
     requires { length sources.now ≤ 8 }
-    ensures { option_map items_of result ≡ found named asked (map source_of sources.now) rows.now }
+    ensures { option_map items_of result ≡ found R.named R.asked (map source_of sources.now) rows.now }
 {
     let mut named = Rows::new(blank);
     for source in sources {

@@ -1,4 +1,4 @@
-use Rattle.std.proofs.Common.{◌≡◌, eqb, map, sym, ap, ◌∙◌}
+use Rattle.std.proofs.Common.{eqb, map, sym, ap, ◌∙◌}
 use Rattle.std.specs.Option.{option_map}
 use Rattle.argument_check.specs.Check.{into_last, last_is}
 use Rattle.compactions.specs.Meanings.{run_of, tree_of}
@@ -10,6 +10,6 @@ returns-in-Some-last c =
     let it = c.in-Some-last.ensures.item in
     let d = c.args.destination in
     ap (λ r. eqb d (run_of r).id) it.1
-    ∙ sym (last_at run_of d c.as-slice.result.now c.in-Some-last.run'.now it.3.0)
-    ∙ ap (λ rows. last_is d (map run_of rows)) c.as-slice.ensures
+    ∙ sym (last_at run_of d c.as_slice.result.now c.in-Some-last.run'.now it.3.0)
+    ∙ ap (λ rows. last_is d (map run_of rows)) c.as_slice.ensures
     ∙ ap (λ t. into_last d (option_map (λ x. tree_of x.now) t)) (sym c.in-Some.is)

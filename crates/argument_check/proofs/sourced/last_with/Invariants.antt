@@ -4,5 +4,5 @@ use Rattle.argument_check.proofs.sourced.last_with.Given as goal
 
 abbrev pub invariant-loop-row : goal.invariant-loop-row
 invariant-loop-row g l =
-    let k = g.Key-as-Key.value l.key in
+    let k = g.R.Key.Key.value l.key in
     last_under g.R.Sourced.named k (drop l.row-index l.rows) l.last ≡ last_under g.R.Sourced.named k l.rows None
