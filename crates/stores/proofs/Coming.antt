@@ -1,12 +1,12 @@
 -- What is ahead of a store over lent lists, call by call.
-use Rattle.std.proofs.Common.{◌≡◌, ℕ, ◌<◌, ◌≤◌, min, List, [], ◌∷◌, map, length, get_or, take, drop, Option, sym, refl, ap, ◌∙◌, ⊎_elim, arith}
+use Rattle.std.proofs.Common.{◌≡◌, ℕ, ◌<◌, min, List, [], ◌∷◌, map, length, get_or, take, drop, Option, refl, ap, ⊎_elim, arith}
 use Rattle.std.proofs.lemmas.List.{take-map, drop-map, take_all, drop_all}
 use Rattle.std.proofs.lemmas.Bool.{cases_lt}
 use Rattle.stores.specs.declared.interference.Interference as lent
 use Rattle.stores.specs.Kinds.{coming}
 use Rattle.stores.specs.Meanings.{outcome_of}
 use Rattle.stores.specs.Records.{Record}
-use Rattle.stores.specs.Stores.{Edit, Interference, Store, Outcome, clear, all_edited, next_interference, later, read}
+use Rattle.stores.specs.Stores.{Edit, Store, clear, all_edited, next_interference, read}
 
 -- so many of the edits, or all of them
 pub first_edits : {D : Type 0} (meaning : D → Edit) (n : ℕ) (ds : List D) → map meaning (take (min n (length ds)) ds) ≡ take n (map meaning ds)

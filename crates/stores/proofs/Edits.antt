@@ -1,5 +1,5 @@
 -- The turns of the loop over others' edits.
-use Rattle.std.proofs.Common.{◌≡◌, ℕ, ◌+◌, ◌<◌, ◌≤◌, List, map, length, get_or, drop, Option, sym, ap, ◌∙◌}
+use Rattle.std.proofs.Common.{◌≡◌, ℕ, ◌+◌, ◌<◌, ◌≤◌, List, map, length, get_or, drop, Option}
 use Rattle.std.proofs.lemmas.List.{drop_more, drop_all}
 use Rattle.stores.specs.Records.{Record}
 use Rattle.stores.specs.Stores.{Edit, edited, all_edited}

@@ -1,10 +1,10 @@
 -- A record's rows and its entries: the same steps, through the meaning.
-use Rattle.std.proofs.Common.{◌≡◌, ℕ, Bool, true, false, cond, List, map, sym, refl, ap, ◌∙◌}
+use Rattle.std.proofs.Common.{◌≡◌, ℕ, Bool, true, false, cond, List, map}
 use Rattle.table.specs.Tables.{put, strike}
 use Rattle.table.proofs.Mapped.{put_map, strike-map}
 use Rattle.compactions.specs.Meanings.{entry_of}
 use Rattle.compactions.specs.declared.compactor_state.Compaction.{Compaction}
-use Rattle.stores.specs.Records.{Record, entry_id, with_entries}
+use Rattle.stores.specs.Records.{Record, entry_id}
 
 module _ (v v' : ℕ) (xs xs' : List Compaction) (same : v' ≡ v) where
   -- a row put

@@ -1,7 +1,6 @@
 -- What a record of the code means.
 use Rattle.std.specs.Prelude.{List, map, take, Some, None, Ok, Err, Option, Result}
 use Rattle.table.specs.Ids.{number}
-use Rattle.compactions.specs.Entries.{Entry}
 use Rattle.compactions.specs.Meanings.{entry_of}
 use Rattle.compactions.specs.declared.compactor_state.Compaction.{Compaction}
 use Rattle.stores.specs.declared.record.Compactions.{Compactions}

@@ -1,5 +1,5 @@
 -- A record by its meaning: a version and entries, ascending by their ids.
-use Rattle.std.specs.Prelude.{ℕ, ◌+◌, ◌-◌, ◌^◌, cond, List, [], ◌∷◌, nat_lt}
+use Rattle.std.specs.Prelude.{ℕ, ◌+◌, ◌-◌, ◌^◌, cond, List, nat_lt}
 use Rattle.table.specs.Tables.{holds, put, admits, strike}
 use Rattle.compactions.specs.Entries.{Entry}
 

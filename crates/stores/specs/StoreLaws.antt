@@ -1,7 +1,7 @@
 -- What holds of every store, whatever befalls its calls.
-use Rattle.std.specs.Prelude.{◌≡◌, ℕ, ◌<◌, ◌⊎◌, List, [], ◌∷◌, Some, None, Option}
+use Rattle.std.specs.Prelude.{◌≡◌, ℕ, ◌<◌, ◌⊎◌, ◌∷◌, Some, None, Option}
 use Rattle.stores.specs.Records.{Record}
-use Rattle.stores.specs.Stores.{Store, Interference, clear, down, lost, got, conflict, Write, next_interference, later, settled, read, update}
+use Rattle.stores.specs.Stores.{Store, clear, down, lost, got, conflict, Write, next_interference, later, settled, read, update}
 
 -- a record stays, with the same entries at the same version, or at a higher version
 abbrev pub Grows : Option Record → Option Record → Type 0

@@ -1,5 +1,5 @@
 -- What a store means, and what its calls do to it.
-use Rattle.std.specs.Prelude.{ℕ, ◌+◌, cond, List, [], ◌∷◌, Some, None, Option, ◌==◌, nat_lt}
+use Rattle.std.specs.Prelude.{ℕ, cond, List, [], ◌∷◌, Some, None, Option, ◌==◌, nat_lt}
 use Rattle.compactions.specs.Entries.{Entry}
 use Rattle.stores.specs.Records.{Record, last_version, raised, put_entry, remove_entry}
 

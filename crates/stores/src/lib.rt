@@ -1,4 +1,6 @@
 // The record of compactions and the stores that keep it.
+#![tactic(auto)]
+
 mod apply;
 pub mod compactions_store;
 pub mod draft;

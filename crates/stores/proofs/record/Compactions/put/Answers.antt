@@ -8,6 +8,6 @@ use Rattle.stores.proofs.record.Compactions.put.Goals as goal
 
 pub returns : goal.returns
 returns c = record {
-  value = c.put-row.ensures.value ∙ admits-map entry_of entry_id 32 c.args.entry (entries_of c.args.self.now);
-  after = row_put _ _ (entries_of c.args.self.now) _ c.put-row.ensures.version _ c.args.entry c.put-row.ensures.after;
+  value = c.put_row.ensures.value ∙ admits-map entry_of entry_id 32 c.args.entry (entries_of c.args.self.now);
+  after = row_put _ _ (entries_of c.args.self.now) _ c.put_row.ensures.version _ c.args.entry c.put_row.ensures.after;
 }
