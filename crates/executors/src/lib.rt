@@ -1,4 +1,6 @@
 // Executors of compaction jobs, and what a worker reads: a clock and manifests.
+#![tactic(auto)]
+
 pub mod clock;
 pub mod compactor_executor;
 mod job_table;

@@ -9,11 +9,11 @@ use Rattle.executors.proofs.JobRows.{args_at, holds_args, table_with, front_kept
 use Rattle.executors.proofs.Scans.{passed_more, passed_hit, passed_all}
 use Rattle.executors.proofs.job_table.JobTable.first_running.Goals as goal
 
-pub invariant-of-self : goal.invariant-of-self
-invariant-of-self c = facts_kept c.args.self.now c.over-table.result c.over-table.ensures.room c.over-table.ensures.rows
+pub invariant_of-self : goal.invariant_of-self
+invariant_of-self c = let all = facts_kept c.args.self.now c.over-table.result c.over-table.ensures.room c.over-table.ensures.rows in record { whole = all.0; within = all.1.0; ascending = all.1.1.0 }
 
-pub invariant-of-self-in-loop-at : goal.invariant-of-self-in-loop-at
-invariant-of-self-in-loop-at c = facts_kept c.args.self.now c.over-table.result c.over-table.ensures.room c.over-table.ensures.rows
+pub invariant_of-self-in-loop-at : goal.invariant_of-self-in-loop-at
+invariant_of-self-in-loop-at c = let all = facts_kept c.args.self.now c.over-table.result c.over-table.ensures.room c.over-table.ensures.rows in record { whole = all.0; within = all.1.0; ascending = all.1.1.0 }
 
 pub loop-at-preserved : goal.loop-at-preserved
 loop-at-preserved c =

@@ -15,7 +15,7 @@ returns c =
     let said : Inserted row c.if-not-holds.fits xs (take c.len-len.result c.if-not-holds.table.rows.now) =
     elim c.if-not-holds.branch [
       | then-not-holds w ↦
-          let fits = w.fits-is ∙ w.is-ok-fits.ensures.value in
+          let fits = w.fits-is ∙ w.is_ok-fits.ensures.value in
           inserted_new row _ xs _ zs c.over-table.ensures.rows c.args.self.now.ascending w.if-not-holds.ensures
           (fits ∙ w.put.ensures.value ∙ ap (λ n. admits row_id n row zs) room)
           (k ∙ ap rows_of w.table-is ∙ w.put.ensures.after ∙ ap (λ b. cond b (put row_id row zs) zs) (sym fits))

@@ -10,5 +10,5 @@ returns-then-started c =
     let a = args_of c.args.args in
     let t = table_of c.args.self.now in
     let s = c.insert-started.ensures in
-    let after = begun_from c.insert-started.result a t _ c.saturating-add-self.result c.if-started.true s.running (c.saturating-add-self.ensures ∙ ap following s.next) in
+    let after = begun_from c.insert-started.result a t _ c.saturating_add-self.result c.if-started.true s.running (c.saturating_add-self.ensures ∙ ap following s.next) in
     record { value = s.value; after = after; jobs = ap args_in after ∙ args_begun c.insert-started.result a t }

@@ -12,8 +12,8 @@ use Rattle.executors.proofs.list_executor.ListExecutorCompactionExecutor.take.Go
 pub returns-then-at-notices : goal.returns-then-at-notices
 returns-then-at-notices c =
     let ns = c.args.self.now.notices.now in
-    let at = c.first-running-at.result in
-    let found = c.first-running-at.ensures in
+    let at = c.first_running-at.result in
+    let found = c.first_running-at.ensures in
     record {
       takes = record { running = refl; left = ap args_in found.same };
       notice = ap (option_map notice_of) (sym (slice_get_past ns at c.if-at-notices.true)) ∙ found.notice;
@@ -24,8 +24,8 @@ pub returns : goal.returns
 returns c =
     let e = c.args.self.now in
     let n = c.index-notices-at.result in
-    let found = c.first-running-at.ensures in
-    let notice = ap (option_map notice_of) (sym (slice_get_read e.notices.now _ c.first-running-at.result n refl c.if-at-notices.false c.index-notices-at.is)) ∙ found.notice in
+    let found = c.first_running-at.ensures in
+    let notice = ap (option_map notice_of) (sym (slice_get_read e.notices.now _ c.first_running-at.result n refl c.if-at-notices.false c.index-notices-at.is)) ∙ found.notice in
     record {
       takes = record {
         running = ap (names_running (list_jobs e)) notice ∙ first_runs (list_jobs e) (ahead_of e);

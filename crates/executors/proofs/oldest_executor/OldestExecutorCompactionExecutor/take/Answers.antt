@@ -9,7 +9,7 @@ use Rattle.executors.proofs.oldest_executor.OldestExecutorCompactionExecutor.tak
 pub returns : goal.returns
 returns c =
     let t = oldest_jobs c.args.self.now in
-    let notice = ap (option_map (λ j. finish_of j.args)) c.in-ok-job.ensures in
+    let notice = ap (option_map (λ j. finish_of j.args)) c.in_ok-job.ensures in
     record {
       takes = record { running = ap (names_running (args_in t)) notice ∙ oldest_runs t; left = c.settle.ensures.jobs };
       notice = notice;
