@@ -1,6 +1,6 @@
 -- The argument check passes exactly the startable entries.
 use Rattle.std.proofs.Common.{◌≡◌, ℕ, ◌<◌, Bool, true, false, cond, ◌&&◌, eqb, ltb, ◌⊎◌, List, [], ◌∷◌, ◌++◌, map, Some, None, Decides, Option, sym, refl, ap, ◌∙◌, subst, inl, inr, ⊎_elim, arith, rules}
-use Rattle.std.specs.List.{AllByRecursion as All}
+use Rattle.std.specs.List.{AllByRecursion}
 use Rattle.std.specs.Str.{bytes_eq}
 use Rattle.std.proofs.lemmas.Slice.Eq.{bytes_eq-Decides}
 use Rattle.std.proofs.lemmas.Bool.{cases_Bool, cases_eq, cases_order, and_parts, eqb-true, eqb-false, eq-eqb, ne_eqb, ltb-true, lt-ltb, le-ltb, false≢true}
@@ -105,7 +105,7 @@ module _ (m : Manifest) (rise : rises [] (map (λ x. x.prefix) m.segments) ≡ t
 -- the last row under an id
 
 module _ {A : Type 0} (key : A → ℕ) where
-  last_none : (i : ℕ) (rows : List A) (seen : Option A) → last_under key i rows seen ≡ None → (seen ≡ None) × All (λ y. key y ≡ i → ⊥) rows
+  last_none : (i : ℕ) (rows : List A) (seen : Option A) → last_under key i rows seen ≡ None → (seen ≡ None) × AllByRecursion (λ y. key y ≡ i → ⊥) rows
   last_none i [] seen e = (e, tt)
   last_none i (x ∷ rows) seen e =
       ⊎_elim
@@ -113,7 +113,7 @@ module _ {A : Type 0} (key : A → ℕ) where
       (λ b. let n = last_none i rows seen (rw b at e) in (n.0, ((λ k. eqb-false i (key x) b (sym k)), n.1)))
       (cases_Bool (eqb i (key x)))
 
-  last_some : (i : ℕ) (rows : List A) (seen : Option A) (x : A) → last_under key i rows seen ≡ Some x → LastWith key i rows x ⊎ ((seen ≡ Some x) × All (λ y. key y ≡ i → ⊥) rows)
+  last_some : (i : ℕ) (rows : List A) (seen : Option A) (x : A) → last_under key i rows seen ≡ Some x → LastWith key i rows x ⊎ ((seen ≡ Some x) × AllByRecursion (λ y. key y ≡ i → ⊥) rows)
   last_some i [] seen x e = inr (e, tt)
   last_some i (y ∷ rows) seen x e =
       ⊎_elim
@@ -142,7 +142,7 @@ module _ {A : Type 0} (key : A → ℕ) (asked : Source → Option ℕ) (rows : 
   ids [] = []
   ids (s ∷ ss) = elim (asked s) [ None ↦ ids ss | Some i ↦ i ∷ ids ss ]
 
-  absent : (i : ℕ) (xs : List A) (x : A) → All (λ y. key y ≡ i → ⊥) xs → Member x xs → key x ≡ i → ⊥
+  absent : (i : ℕ) (xs : List A) (x : A) → AllByRecursion (λ y. key y ≡ i → ⊥) xs → Member x xs → key x ≡ i → ⊥
   absent i [] x a n k = n
   absent i (y ∷ xs) x a n k = ⊎_elim (λ e. a.0 (ap key (sym e) ∙ k)) (λ n'. absent i xs x a.1 n' k) n
 
@@ -150,7 +150,7 @@ module _ {A : Type 0} (key : A → ℕ) (asked : Source → Option ℕ) (rows : 
   in_middle [] back x = inl refl
   in_middle (y ∷ front) back x = inr (in_middle front back x)
 
-  found_at : (i : ℕ) (s : Source) (ss : List Source) (l : Option A) (r : Option (List A)) (xs : List A) → asked s ≡ Some i → last_under key i rows None ≡ l → both l r ≡ Some xs → ((ys : List A) → r ≡ Some ys → All Here ss × LastEach key rows (ids ss) ys) → All Here (s ∷ ss) × LastEach key rows (i ∷ ids ss) xs
+  found_at : (i : ℕ) (s : Source) (ss : List Source) (l : Option A) (r : Option (List A)) (xs : List A) → asked s ≡ Some i → last_under key i rows None ≡ l → both l r ≡ Some xs → ((ys : List A) → r ≡ Some ys → AllByRecursion Here ss × LastEach key rows (ids ss) ys) → AllByRecursion Here (s ∷ ss) × LastEach key rows (i ∷ ids ss) xs
   found_at i s ss None r xs a u e ih = absurd (none≢some e)
   found_at i s ss (Some x) None xs a u e ih = absurd (none≢some e)
   found_at i s ss (Some x) (Some ys) xs a u e ih =
@@ -160,25 +160,25 @@ module _ {A : Type 0} (key : A → ℕ) (asked : Source → Option ℕ) (rows : 
       let there : Member x rows = rw w.2 (in_middle w.0 w.1 x) in
       rw z ((((λ j k. (x, there, w.3 ∙ (cc))), rest.0)), (w, rest.1))
 
-  found_step : (o : Option ℕ) (s : Source) (ss : List Source) (r : Option (List A)) (xs : List A) → asked s ≡ o → adding key o rows r ≡ Some xs → ((ys : List A) → r ≡ Some ys → All Here ss × LastEach key rows (ids ss) ys) → All Here (s ∷ ss) × LastEach key rows (elim o [ None ↦ ids ss | Some i ↦ i ∷ ids ss ]) xs
+  found_step : (o : Option ℕ) (s : Source) (ss : List Source) (r : Option (List A)) (xs : List A) → asked s ≡ o → adding key o rows r ≡ Some xs → ((ys : List A) → r ≡ Some ys → AllByRecursion Here ss × LastEach key rows (ids ss) ys) → AllByRecursion Here (s ∷ ss) × LastEach key rows (elim o [ None ↦ ids ss | Some i ↦ i ∷ ids ss ]) xs
   found_step None s ss r xs a e ih = let h = ih xs e in (((λ i k. absurd (none≢some (sym a ∙ k))), h.0), h.1)
   found_step (Some i) s ss r xs a e ih = found_at i s ss (last_under key i rows None) r xs a refl e ih
 
-  pub found_here : (ss : List Source) (xs : List A) → found key asked ss rows ≡ Some xs → All Here ss × LastEach key rows (ids ss) xs
+  pub found_here : (ss : List Source) (xs : List A) → found key asked ss rows ≡ Some xs → AllByRecursion Here ss × LastEach key rows (ids ss) xs
   found_here [] [] e = (tt, tt)
   found_here [] (x ∷ xs) e = let z : ◌≡◌ {A = ℕ} 0 1 = cc in absurd (omega arith)
   found_here (s ∷ ss) xs e = found_step (asked s) s ss (found key asked ss rows) xs refl e (found_here ss)
 
-  missing_at : (i : ℕ) (s : Source) (ss : List Source) (l : Option A) (r : Option (List A)) → asked s ≡ Some i → last_under key i rows None ≡ l → both l r ≡ None → (r ≡ None → All Here ss → ⊥) → All Here (s ∷ ss) → ⊥
+  missing_at : (i : ℕ) (s : Source) (ss : List Source) (l : Option A) (r : Option (List A)) → asked s ≡ Some i → last_under key i rows None ≡ l → both l r ≡ None → (r ≡ None → AllByRecursion Here ss → ⊥) → AllByRecursion Here (s ∷ ss) → ⊥
   missing_at i s ss None r a u e ih h = let x = h.0 i a in absent i rows x.0 (last_none key i rows None u).1 x.1 x.2
   missing_at i s ss (Some x) None a u e ih h = ih refl h.1
   missing_at i s ss (Some x) (Some ys) a u e ih h = none≢some (sym e)
 
-  missing_step : (o : Option ℕ) (s : Source) (ss : List Source) (r : Option (List A)) → asked s ≡ o → adding key o rows r ≡ None → (r ≡ None → All Here ss → ⊥) → All Here (s ∷ ss) → ⊥
+  missing_step : (o : Option ℕ) (s : Source) (ss : List Source) (r : Option (List A)) → asked s ≡ o → adding key o rows r ≡ None → (r ≡ None → AllByRecursion Here ss → ⊥) → AllByRecursion Here (s ∷ ss) → ⊥
   missing_step None s ss r a e ih h = ih e h.1
   missing_step (Some i) s ss r a e ih h = missing_at i s ss (last_under key i rows None) r a refl e ih h
 
-  pub found_missing : (ss : List Source) → found key asked ss rows ≡ None → All Here ss → ⊥
+  pub found_missing : (ss : List Source) → found key asked ss rows ≡ None → AllByRecursion Here ss → ⊥
   found_missing [] e h = none≢some (sym e)
   found_missing (s ∷ ss) e h = missing_step (asked s) s ss (found key asked ss rows) refl e (found_missing ss) h
 
@@ -201,17 +201,17 @@ module _ (t : Option Tree) where
   abbrev RunHere : Source → Type 0
   RunHere = Here (λ r. r.id) asked_run (runs_of t)
 
-  all_present : (ss : List Source) → All ViewHere ss → All RunHere ss → All (Present t) ss
+  all_present : (ss : List Source) → AllByRecursion ViewHere ss → AllByRecursion RunHere ss → AllByRecursion (Present t) ss
   all_present [] v r = tt
   all_present (run i ∷ ss) v r = (r.0 i refl, all_present ss v.1 r.1)
   all_present (view i ∷ ss) v r = (v.0 i refl, all_present ss v.1 r.1)
 
-  views_here : (ss : List Source) → All (Present t) ss → All ViewHere ss
+  views_here : (ss : List Source) → AllByRecursion (Present t) ss → AllByRecursion ViewHere ss
   views_here [] h = tt
   views_here (run i ∷ ss) h = ((λ j k. absurd (none≢some k)), views_here ss h.1)
   views_here (view i ∷ ss) h = ((λ j k. let x = h.0 in (x.0, x.1, x.2 ∙ (cc))), views_here ss h.1)
 
-  runs_here : (ss : List Source) → All (Present t) ss → All RunHere ss
+  runs_here : (ss : List Source) → AllByRecursion (Present t) ss → AllByRecursion RunHere ss
   runs_here [] h = tt
   runs_here (run i ∷ ss) h = ((λ j k. let x = h.0 in (x.0, x.1, x.2 ∙ (cc))), runs_here ss h.1)
   runs_here (view i ∷ ss) h = ((λ j k. absurd (none≢some k)), runs_here ss h.1)
@@ -240,12 +240,12 @@ mark_decides d (Some t) = (last_front d t.runs, ⊎_elim (λ e. rw e) (λ h. rw 
 
 module _ (e : Entry) (m : Manifest) (rise : rises [] (map (λ x. x.prefix) m.segments) ≡ true) where
   -- a startable entry finds all its views and all its runs
-  refuses : (seg : List ℕ) (ss : List Source) (d : ℕ) → e.spec ≡ tiered seg ss d → (All (ViewHere (tree_for seg m)) ss → All (RunHere (tree_for seg m)) ss → ⊥) → (seg' : List ℕ) (ss' : List Source) (d' : ℕ) (t : Option Tree) → Startable e m seg' ss' d' t → ⊥
+  refuses : (seg : List ℕ) (ss : List Source) (d : ℕ) → e.spec ≡ tiered seg ss d → (AllByRecursion (ViewHere (tree_for seg m)) ss → AllByRecursion (RunHere (tree_for seg m)) ss → ⊥) → (seg' : List ℕ) (ss' : List Source) (d' : ℕ) (t : Option Tree) → Startable e m seg' ss' d' t → ⊥
   refuses seg ss d s missing seg' ss' d' t h =
       let same-segment : seg' ≡ seg = cc (s, h.spec) in
       let same-sources : ss' ≡ ss = cc (s, h.spec) in
       let same-tree : t ≡ tree_for seg m = sym (tree_only m rise seg' t h.tree) ∙ ap (λ p. tree_for p m) same-segment in
-      let there : All (Present (tree_for seg m)) ss = rw (same-tree, same-sources) at h.sources in
+      let there : AllByRecursion (Present (tree_for seg m)) ss = rw (same-tree, same-sources) at h.sources in
       missing (views_here (tree_for seg m) ss there) (runs_here (tree_for seg m) ss there)
 
   answers : (seg : List ℕ) (ss : List Source) (d : ℕ) → e.spec ≡ tiered seg ss d → (vs : Option (List View)) (rs : Option (List Run)) → found (λ v. v.id) asked_view ss (views_of (tree_for seg m)) ≡ vs → found (λ r. r.id) asked_run ss (runs_of (tree_for seg m)) ≡ rs → Passing e m (checked (args_with e d (tree_for seg m) m vs rs))

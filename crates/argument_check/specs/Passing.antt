@@ -1,6 +1,6 @@
 -- The argument check in the subject's words: when an entry passes, and what its job is started with.
 use Rattle.std.specs.Prelude.{◌≡◌, ℕ, Bool, ◌⊎◌, List, [], ◌∷◌, ◌++◌, Some, None, Decides, Option, ◌≢◌}
-use Rattle.std.specs.List.{AllByRecursion as All}
+use Rattle.std.specs.List.{AllByRecursion}
 use Rattle.compactions.specs.Entries.{Entry, Source, run, view, tiered}
 use Rattle.compactions.specs.Trees.{View, Run, Tree, Segment, Manifest, views_of, runs_of}
 use Rattle.compactions.specs.Jobs.{Args}
@@ -35,7 +35,7 @@ asked_runs (view i ∷ ss) = asked_runs ss
 
 -- the row has the id, and no row after it has
 abbrev pub LastWith : {A : Type 0} → (A → ℕ) → ℕ → List A → A → Type 0
-LastWith {A} key i rows x = (front : List A) × (back : List A) × (rows ≡ front ++ (x ∷ back)) × (key x ≡ i) × All (λ y. key y ≢ i) back
+LastWith {A} key i rows x = (front : List A) × (back : List A) × (rows ≡ front ++ (x ∷ back)) × (key x ≡ i) × AllByRecursion (λ y. key y ≢ i) back
 
 -- one row for each id, in the ids' order: the last with that id
 abbrev pub LastEach : {A : Type 0} → (A → ℕ) → List A → List ℕ → List A → Type 0
@@ -53,7 +53,7 @@ IntoLast d (Some t) = (t.runs ≡ []) ⊎ ((front : List Run) × (r : Run) × (t
 pub record Startable (e : Entry) (m : Manifest) (seg : List ℕ) (ss : List Source) (d : ℕ) (t : Option Tree) : Type 0 where
   pub spec : e.spec ≡ tiered seg ss d
   pub tree : TreeOf m seg t
-  pub sources : All (Present t) ss
+  pub sources : AllByRecursion (Present t) ss
 
 -- what the job is started with
 pub record StartedWith (e : Entry) (m : Manifest) (ss : List Source) (d : ℕ) (t : Option Tree) (a : Args) : Type 0 where

@@ -1,7 +1,7 @@
 -- The notices that executors give name running jobs.
 use Rattle.std.proofs.Common.{◌≡◌, ℕ, true, ltb, List, [], ◌∷◌, Some, None, Option, sym, refl, ◌∙◌}
 use Rattle.std.specs.Option.{option_map}
-use Rattle.std.specs.List.{AllByRecursion as All}
+use Rattle.std.specs.List.{AllByRecursion}
 use Rattle.std.proofs.ByRecursion.{All-weaker}
 use Rattle.std.proofs.lemmas.Bool.{cond_both, eq-eqb, or_left, or_right}
 use Rattle.table.specs.Tables.{holds}
@@ -17,7 +17,7 @@ first_runs jobs [] = refl
 first_runs jobs (n ∷ ns) = cond_both (runs jobs n) _ _ (λ o. names_running jobs o ≡ true) (λ e. e) (λ _. first_runs jobs ns)
 
 -- every row of a table is held by it
-pub all_held : {R : Type 0} (key : R → ℕ) (xs : List R) → All (λ x. holds key (key x) xs ≡ true) xs
+pub all_held : {R : Type 0} (key : R → ℕ) (xs : List R) → AllByRecursion (λ x. holds key (key x) xs ≡ true) xs
 all_held key [] = tt
 all_held key (x ∷ xs) = (or_left _ _ (eq-eqb (key x) (key x) refl), All-weaker (λ y. holds key (key y) xs ≡ true) (λ y. holds key (key y) (x ∷ xs) ≡ true) (λ y h. or_right _ _ h) xs (all_held key xs))
 
@@ -30,7 +30,7 @@ held_older : (js : List Job) (seen : Option Job) (j : Job) → Held js seen → 
 held_older js None j h k = k
 held_older js (Some s) j h k = cond_both (ltb j.started s.started) _ _ (Held js) (λ _. k) (λ _. h)
 
-held_oldest : (all : List Job) (seen : Option Job) (js : List Job) → Held all seen → All (λ j. holds id_of (id_of j) all ≡ true) js → Held all (oldest_from seen js)
+held_oldest : (all : List Job) (seen : Option Job) (js : List Job) → Held all seen → AllByRecursion (λ j. holds id_of (id_of j) all ≡ true) js → Held all (oldest_from seen js)
 held_oldest all seen [] h a = h
 held_oldest all seen (j ∷ js) h a = held_oldest all (older seen j) js (held_older all seen j h a.0) a.1
 

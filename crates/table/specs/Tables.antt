@@ -1,11 +1,11 @@
 -- A table as a list of rows, over any row type and any key of a row.
 use Rattle.std.specs.Prelude.{ℕ, suc, ◌<◌, Bool, true, false, cond, not, ◌||◌, List, [], ◌∷◌, length, Some, None, Option, ◌==◌, nat_le, nat_lt}
-use Rattle.std.specs.List.{AllByRecursion as All}
+use Rattle.std.specs.List.{AllByRecursion}
 
 -- keys rise strictly
 abbrev pub Ascending : {R : Type 0} → (R → ℕ) → List R → Type 0
 Ascending key [] = Unit {0}
-Ascending key (x ∷ xs) = All (λ y. key x < key y) xs × Ascending key xs
+Ascending key (x ∷ xs) = AllByRecursion (λ y. key x < key y) xs × Ascending key xs
 
 -- the same as a test: each key is below the next
 abbrev pub ascends : {R : Type 0} → (R → ℕ) → List R → Bool

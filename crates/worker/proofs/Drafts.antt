@@ -1,6 +1,6 @@
 -- Drafts: their entries are in order and few, and an entry that takes the place of another is never refused.
 use Rattle.std.proofs.Common.{◌≡◌, ℕ, ◌≤◌, true, cond, leb, List, [], ◌∷◌, map, length, take, is_ok, Result, sym, refl, ap, ◌∙◌, arith}
-use Rattle.std.specs.List.{AllByRecursion as All}
+use Rattle.std.specs.List.{AllByRecursion}
 use Rattle.std.proofs.lemmas.List.{length-map, length-take-le}
 use Rattle.std.proofs.lemmas.Bool.{le-leb}
 use Rattle.table.specs.Tables.{Ascending, holds, put, admits}
@@ -38,7 +38,7 @@ inserted d d' c r h said e =
 -- a draft that has got to the entries `rest`
 pub record Marking (n stamp : ℕ) (cs : List Entry) (r₀ : Record) (rest : List Entry) (r : Record) : Type 0 where
   pub whole : claim_draft n stamp rest r ≡ claim_draft n stamp cs r₀
-  pub held : All (λ c. holds entry_id c.id r.entries ≡ true) rest
+  pub held : AllByRecursion (λ c. holds entry_id c.id r.entries ≡ true) rest
 
 pub marking_more : {n stamp : ℕ} {cs : List Entry} {r₀ : Record} {e : Entry} {rest : List Entry} {r : Record} (r' : Record) → Marking n stamp cs r₀ (e ∷ rest) r → r' ≡ with_entries r (put entry_id (claimed_as n stamp e) r.entries) → Marking n stamp cs r₀ rest r'
 marking_more {n} {stamp} {cs} {r₀} {e} {rest} {r} r' m q = record {

@@ -1,6 +1,6 @@
 -- Rows with a key, in ascending order: what put and strike leave.
 use Rattle.std.proofs.Common.{◌≡◌, ℕ, suc, ◌+◌, ◌<◌, ◌≤◌, Bool, true, false, cond, ◌||◌, eqb, ltb, ◌⊎◌, List, [], ◌∷◌, map, length, Some, None, sym, refl, ap, ◌∙◌, inl, inr, arith}
-use Rattle.std.specs.List.{AllByRecursion as All}
+use Rattle.std.specs.List.{AllByRecursion}
 use Rattle.std.proofs.ByRecursion.{All-weaker, All-map}
 use Rattle.std.proofs.lemmas.Bool.{cases_eq, eqb-false}
 use Rattle.std.proofs.lemmas.Bool.Decides.{nat_tests}
@@ -18,7 +18,7 @@ flipped false y f e = refl
 module _ {R : Type 0} (key : R → ℕ) where
   -- each key is above k
   abbrev pub Above : ℕ → List R → Type 0
-  Above k xs = All (λ y. k < key y) xs
+  Above k xs = AllByRecursion (λ y. k < key y) xs
 
   pub holds-put_same : (r : R) (xs : List R) → holds key (key r) (put key r xs) ≡ true
   holds-put_same r xs = let p = (lawful key).holds_put r (key r) xs in grind (arith, nat_tests)

@@ -1,7 +1,7 @@
 -- A poll's walk over the entries: the chosen ones are open entries of the record, in order, none of them with a row or
 -- on the list, and no more than there is room for.
 use Rattle.std.proofs.Common.{◌≡◌, ℕ, suc, ◌+◌, ◌-◌, ◌<◌, ◌≤◌, Bool, true, false, cond, ◌&&◌, eqb, ltb, ◌⊎◌, List, [], ◌∷◌, map, length, Some, Option, sym, refl, ap, ◌∙◌, subst, inl, inr, arith}
-use Rattle.std.specs.List.{AllByRecursion as All}
+use Rattle.std.specs.List.{AllByRecursion}
 use Rattle.std.proofs.lemmas.List.{length-map}
 use Rattle.std.proofs.lemmas.Bool.{cond_both, cases_eq, cases_lt, ltb-true, eqb-true, true≢false}
 use Rattle.std.proofs.lemmas.Bool.Decides.{nat_tests}
@@ -52,10 +52,10 @@ pub record WalkSo (full : List Entry) (es : List Entry) (room : ℕ) (t : List J
   pub ascending : Ascending entry_id es → Ascending entry_id x.chosen
   pub few : length x.chosen ≤ room
   pub some_open : length x.chosen ≤ how_many unclaimed es
-  pub opens : All (λ c. FoundIn full c × (unclaimed c ≡ true)) x.chosen
+  pub opens : AllByRecursion (λ c. FoundIn full c × (unclaimed c ≡ true)) x.chosen
   pub no_row : (i : ℕ) → holds entry_id i x.chosen ≡ true → holds row_id i x.table ≡ false
 
-pub walk_so : (full : List Entry) (es : List Entry) (room : ℕ) (t : List JobRow) (j : List Args) → All (FoundIn full) es → WalkSo full es room t (walked es room t j)
+pub walk_so : (full : List Entry) (es : List Entry) (room : ℕ) (t : List JobRow) (j : List Args) → AllByRecursion (FoundIn full) es → WalkSo full es room t (walked es room t j)
 walk_so full [] room t j f = record {
   trimmed = not_trimmed t;
   above = λ k a. tt;
@@ -112,16 +112,16 @@ walk_so full (e ∷ es) room t j f =
         by i z (inr p) = w.no_row i (grind (arith, nat_tests))
 
 -- every entry of a list in order is the one under its id
-found_still : (e : Entry) (es xs : List Entry) → Above entry_id e.id xs → All (FoundIn es) xs → All (FoundIn (e ∷ es)) xs
+found_still : (e : Entry) (es xs : List Entry) → Above entry_id e.id xs → AllByRecursion (FoundIn es) xs → AllByRecursion (FoundIn (e ∷ es)) xs
 found_still e es [] a f = tt
 found_still e es (x ∷ xs) a f = (cond_both (eqb e.id x.id) _ _ (λ (o : Option Entry). o ≡ Some x) (λ p. absurd (let z = eqb-true _ _ p in let y = a.0 in omega arith)) (λ p. f.0), found_still e es xs a.1 f.1)
 
-pub all_found : (es : List Entry) → Ascending entry_id es → All (FoundIn es) es
+pub all_found : (es : List Entry) → Ascending entry_id es → AllByRecursion (FoundIn es) es
 all_found [] a = tt
 all_found (e ∷ es) a = (grind (arith, nat_tests), found_still e es es a.0 (all_found es a.1))
 
 -- the chosen ones do not run under the number
-chosen_idle : (n : ℕ) (full cs : List Entry) → All (λ c. FoundIn full c × (unclaimed c ≡ true)) cs → (i : ℕ) → holds entry_id i cs ≡ true → runs_at n full i ≡ false
+chosen_idle : (n : ℕ) (full cs : List Entry) → AllByRecursion (λ c. FoundIn full c × (unclaimed c ≡ true)) cs → (i : ℕ) → holds entry_id i cs ≡ true → runs_at n full i ≡ false
 chosen_idle n full [] a i h = absurd (true≢false (sym h))
 chosen_idle n full (c ∷ cs) a i h = by (cases_eq i c.id) (chosen_idle n full cs a.1 i)
   where
@@ -182,14 +182,14 @@ chosen_tracked n max room es t l j a few small b runs fits =
     (omega (arith, same, w.few, w.some_open, w.trimmed.size, listed, all))
 
 -- the draft of a claim: each chosen entry takes the place of the one with its id
-pub chosen_held : (room : ℕ) (es : List Entry) (t : List JobRow) (j : List Args) → Ascending entry_id es → All (λ c. holds entry_id c.id es ≡ true) (walked es room t j).chosen
+pub chosen_held : (room : ℕ) (es : List Entry) (t : List JobRow) (j : List Args) → Ascending entry_id es → AllByRecursion (λ c. holds entry_id c.id es ≡ true) (walked es room t j).chosen
 chosen_held room es t j a = by (walked es room t j).chosen (walk_so es es room t j (all_found es a)).opens
   where
-    by : (cs : List Entry) → All (λ c. FoundIn es c × (unclaimed c ≡ true)) cs → All (λ c. holds entry_id c.id es ≡ true) cs
+    by : (cs : List Entry) → AllByRecursion (λ c. FoundIn es c × (unclaimed c ≡ true)) cs → AllByRecursion (λ c. holds entry_id c.id es ≡ true) cs
     by [] o = tt
     by (c ∷ cs) o = (held entry_id c.id c es o.0.0, by cs o.1)
 
-pub still_held : (c : Entry) (es xs : List Entry) → All (λ x. holds entry_id x.id es ≡ true) xs → All (λ x. holds entry_id x.id (put entry_id c es) ≡ true) xs
+pub still_held : (c : Entry) (es xs : List Entry) → AllByRecursion (λ x. holds entry_id x.id es ≡ true) xs → AllByRecursion (λ x. holds entry_id x.id (put entry_id c es) ≡ true) xs
 still_held c es [] h = tt
 still_held c es (x ∷ xs) h = (by (cases_eq x.id c.id), still_held c es xs h.1)
   where

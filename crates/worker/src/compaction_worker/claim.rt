@@ -1,6 +1,6 @@
 // A claim: attempts to make the chosen entries Running under the worker's number.
 ghost use Rattle.std.specs.Prelude.{◌≡◌, ℕ, ◌+◌, ◌-◌, ◌*◌, ◌≤◌, true, List, map, length, Result};
-ghost use Rattle.std.specs.List.{AllByRecursion as All};
+ghost use Rattle.std.specs.List.{AllByRecursion};
 ghost use Rattle.table.specs.Tables.{holds};
 ghost use Rattle.compactions.specs.Meanings.{entry_of};
 ghost use Rattle.compactions.specs.Trees.{Manifest};
@@ -35,7 +35,7 @@ fn claimed_by(entry: &Compaction, worker: WorkerSpec) -> Compaction
 
 // Each chosen entry, Running under the worker, in the place of the one with its id.
 fn mark_running(draft: &mut Draft, chosen: &[Compaction], worker: WorkerSpec)
-    requires { All (λ c. holds entry_id c.id (draft_of draft.old).entries ≡ true) (map entry_of chosen.now) }
+    requires { AllByRecursion (λ c. holds entry_id c.id (draft_of draft.old).entries ≡ true) (map entry_of chosen.now) }
     ensures { draft_of draft.new ≡ claim_draft worker.worker_id worker.last_heartbeat_ms (map entry_of chosen.now) (draft_of draft.old) }
 {
     for entry in chosen {

@@ -1,5 +1,5 @@
 use Rattle.std.proofs.Common.{◌≡◌, ℕ, ◌+◌, ◌*◌, ◌≤◌, true, false, List, [], map, length, None, Ok, Result, sym, refl, ap, ◌∙◌, subst, arith, true-eqb, false-eqb}
-use Rattle.std.specs.List.{AllByRecursion as All}
+use Rattle.std.specs.List.{AllByRecursion}
 use Rattle.std.proofs.lemmas.List.{length-map, nil_from_length}
 use Rattle.table.specs.Tables.{holds}
 use Rattle.compactions.specs.Counted.{items_of}
@@ -83,7 +83,7 @@ pub mark-running-requires : goal.mark-running-requires
 mark-running-requires g c =
     let b = (goal.at.mark-running-requires g c).After-choose-stopped in
     let d = c.in-ok-draft.draft in
-    subst (λ (xs : List Entry). All (λ e. holds entry_id e.id (draft_of d).entries ≡ true) xs) (sym (marked_are g b _ c.as-slice-2.ensures))
+    subst (λ (xs : List Entry). AllByRecursion (λ e. holds entry_id e.id (draft_of d).entries ≡ true) xs) (sym (marked_are g b _ c.as-slice-2.ensures))
     (chosen_held c.args.capacity (draft_of d).entries _ _ (draft_ascends d))
 
 pub leave-all-requires : goal.leave-all-requires
