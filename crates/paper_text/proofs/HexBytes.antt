@@ -4,7 +4,7 @@ use Rattle.std.proofs.lemmas.List.{at_drop_more, at_drop_all, append-nil, append
 use Rattle.std.proofs.lemmas.Bool.{lt-leb, le-leb}
 use Rattle.compactions.specs.Refusals.{number_of, refused_with, unless}
 use Rattle.compactions.specs.declared.refusal.Refusal.{Refusal}
-use Rattle.compactions.specs.declared.refusal.Refusal.TheVariants.{Count, ManifestCount, Prefix, InvalidCompaction}
+use Rattle.compactions.specs.declared.refusal.Refusal.TheVariants.{Count, ManifestCount, Prefix, Maximum, AttemptLimit, InvalidCompaction}
 use Rattle.paper_text.specs.Digits.{digit_value}
 use Rattle.paper_text.specs.Numbers.{all_digits, value_of, pairs, held}
 
@@ -20,12 +20,14 @@ module _ (ds : List ℕ) (i : ℕ) (rest : all_digits (drop i ds) ≡ all_digits
 
 -- a refusal back from its number
 abbrev refusal_at : ℕ → Refusal
-refusal_at n = cond (eqb n 1) Count (cond (eqb n 2) ManifestCount (cond (eqb n 3) Prefix InvalidCompaction))
+refusal_at n = cond (eqb n 1) Count (cond (eqb n 2) ManifestCount (cond (eqb n 3) Prefix (cond (eqb n 4) Maximum (cond (eqb n 5) AttemptLimit InvalidCompaction))))
 
 there_and_back : (e : Refusal) → refusal_at (number_of e) ≡ e
 there_and_back Count = refl
 there_and_back ManifestCount = refl
 there_and_back Prefix = refl
+there_and_back Maximum = refl
+there_and_back AttemptLimit = refl
 there_and_back InvalidCompaction = refl
 
 same_refusal : (e f : Refusal) → number_of e ≡ number_of f → e ≡ f

@@ -1,5 +1,4 @@
 mod Digits
-mod Equal
 mod Scans
 mod WordCuts
 mod LineCuts

@@ -6,8 +6,8 @@ use Rattle.paper_text.proofs.lines.without_return.Goals as goal
 pub returns-in-13 : goal.returns-in-13
 returns-in-13 c = return_cut_at c.args.line.now (omega (arith, ltb-true, ltb-false)) (omega arith)
 
-pub returns-in-default : goal.returns-in-default
-returns-in-default c = return_of_nil c.args.line.now (omega (arith, ltb-true, ltb-false))
+pub returns-in_default : goal.returns-in_default
+returns-in_default c = return_of_nil c.args.line.now (omega (arith, ltb-true, ltb-false))
 
-pub returns-in-default·2 : goal.returns-in-default·2
-returns-in-default·2 c = return_none_at c.args.line.now (omega (arith, ltb-true, ltb-false)) (λ e. omega arith)
+pub returns-in_default-2 : goal.returns-in_default-2
+returns-in_default-2 c = return_none_at c.args.line.now (omega (arith, ltb-true, ltb-false)) (λ e. omega arith)

@@ -4,4 +4,4 @@ use Rattle.paper_text.proofs.numbers.behind.Goals as goal
 use Rattle.std.proofs.lemmas.Bool.Decides.{Decides-eqb}
 
 pub returns : goal.returns
-returns c = behind_found c.args.beginning.now c.args.word.now _ (strip_prefix_is Decides-eqb _ _ _ c.strip-prefix.ensures.cases)
+returns c = behind_found c.args.beginning.now c.args.word.now _ (strip_prefix_is Decides-eqb _ _ _ c.strip_prefix.ensures.cases)

@@ -3,14 +3,14 @@ use Rattle.std.proofs.lemmas.List.{take_rest}
 use Rattle.paper_text.proofs.WordCuts.{words_none, words_cut, words_shorter}
 use Rattle.paper_text.proofs.words.first_word.Goals as goal
 
-pub returns-then-is-empty : goal.returns-then-is-empty
-returns-then-is-empty c =
-    words_none c.args.line.now _ _ c.leading.ensures.value (take_rest _ c.leading.result) c.if-is-empty.ensures
+pub returns-then-is_empty : goal.returns-then-is_empty
+returns-then-is_empty c =
+    words_none c.args.line.now _ _ c.leading.ensures.value (take_rest _ c.leading.result) c.if-is_empty.ensures
 
 pub returns : goal.returns
 returns c =
     let at = take_rest c.args.line.now c.leading.result in
     let end = take_rest _ c.leading-end.result in (
-      words_cut c.args.line.now _ _ _ c.leading.ensures.value at c.if-is-empty.ensures c.leading-end.ensures.value _ _ refl end,
-      words_shorter c.args.line.now _ _ _ c.leading.ensures.value at c.if-is-empty.ensures c.leading-end.ensures.value _ end,
+      words_cut c.args.line.now _ _ _ c.leading.ensures.value at c.if-is_empty.ensures c.leading-end.ensures.value _ _ refl end,
+      words_shorter c.args.line.now _ _ _ c.leading.ensures.value at c.if-is_empty.ensures c.leading-end.ensures.value _ end,
     )
