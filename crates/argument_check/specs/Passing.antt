@@ -1,5 +1,5 @@
 -- The argument check in the subject's words: when an entry passes, and what its job is started with.
-use Rattle.std.specs.Prelude.{◌≡◌, ℕ, Bool, ◌⊎◌, List, [], ◌∷◌, ◌++◌, Some, None, Decides, Option, ◌≢◌}
+use Rattle.std.specs.Prelude.{◌≡◌, ℕ, ◌⊎◌, List, [], ◌∷◌, ◌++◌, Some, None, Decides, Option, ◌≢◌}
 use Rattle.std.specs.List.{AllByRecursion}
 use Rattle.compactions.specs.Entries.{Entry, Source, run, view, tiered}
 use Rattle.compactions.specs.Trees.{View, Run, Tree, Segment, Manifest, views_of, runs_of}
