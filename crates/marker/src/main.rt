@@ -1,4 +1,6 @@
 // Marks examination papers: the files that are named, or the standard input where none is.
+#![tactic(auto)]
+
 use marking::marks::Marks;
 use paper::reader::Paper;
 use std::io::Read;

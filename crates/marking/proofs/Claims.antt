@@ -1,13 +1,12 @@
 -- Claims that hold, as a loop over them finds out.
 use Rattle.std.proofs.Common.{◌≡◌, ℕ, ◌+◌, ◌<◌, ◌≤◌, Bool, true, false, cond, ◌&&◌, List, [], ◌∷◌, length, get_or, drop, Some, None, vec_items, Option, sym, refl, ap, ◌∙◌}
 use Rattle.std.proofs.lemmas.List.{at_drop_more, at_drop_all}
-use Rattle.compactions.specs.Jobs.{Args, args_of}
+use Rattle.compactions.specs.Jobs.{Args}
 use Rattle.marking.specs.declared.answer.Part.{Part}
 use Rattle.marking.specs.declared.answer.Claim.{Claim}
 use Rattle.marking.specs.declared.answer.Answer.{Answer}
 use Rattle.marking.specs.declared.answer.Answer.TheVariants.{Passes, Refused}
 use Rattle.marking.specs.Marking.{claim_holds, all_hold, part_of, first_wrong, mark_by, mark_of, is_right, agrees}
-use Rattle.compactions.specs.Jobs.{args_of}
 
 module _ (cs : List Claim) (a : Args) (i : ℕ) where
   -- what is left: the next claim, and what is left after it

@@ -1,5 +1,5 @@
 -- The marks of a paper's questions.
-use Rattle.std.specs.Prelude.{ℕ, ◌+◌, Bool, true, false, cond, List, [], ◌∷◌, is_some, Some, None, Option}
+use Rattle.std.specs.Prelude.{ℕ, ◌+◌, Bool, cond, List, [], ◌∷◌, is_some, Some, None, Option}
 use Rattle.std.specs.Option.{option_map}
 use Rattle.argument_check.specs.Check.{job_args}
 use Rattle.compactions.specs.Meanings.{entry_of}

@@ -1,7 +1,7 @@
 -- When an answer agrees with the argument check.
-use Rattle.std.specs.Prelude.{ℕ, Bool, true, false, cond, ◌&&◌, List, [], ◌∷◌, ℤ, pos, negsuc, is_some, Some, None, vec_items, Option, ◌==◌, nat_eq}
+use Rattle.std.specs.Prelude.{Bool, true, false, cond, ◌&&◌, List, [], ◌∷◌, ℤ, pos, negsuc, is_some, Some, None, vec_items, Option, ◌==◌, nat_eq}
 use Rattle.compactions.specs.Meanings.{view_of}
-use Rattle.compactions.specs.Trees.{View, Run}
+use Rattle.compactions.specs.Trees.{View}
 use Rattle.compactions.specs.Jobs.{Args, args_of}
 use Rattle.marking.specs.declared.answer.Claim.{Claim}
 use Rattle.marking.specs.declared.answer.Claim.TheVariants.{Destination, Views, Runs, Tick, LastRun, Retention, Context}

@@ -91,7 +91,7 @@ fn are_same_views(claimed: &[SsTableView], views: &[SsTableView]) -> bool
 
 // Whether these are the ids of the runs, in order.
 fn are_run_ids(claimed: &[u32], runs: &[SortedRun]) -> bool
-    ensures* { λ r. ⌜ r ≡ alike (λ n r. nat_eq n r.id) claimed.now (map run_of runs.now) ⌝ }
+    ensures { result ≡ alike (λ n r. nat_eq n r.id) claimed.now (map run_of runs.now) }
 {
     if claimed.len() != runs.len() {
         return false;

@@ -2,6 +2,8 @@
 //
 // A line `=== NAME` begins a paper. Its text is the lines up to the next such line, with an LF
 // between them and none at the end.
+#![tactic(auto)]
+
 use paper::reader::Paper;
 use std::alloc::{AllocError, Global};
 use std::io::Read;

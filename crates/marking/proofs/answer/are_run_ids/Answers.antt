@@ -1,4 +1,4 @@
-use Rattle.std.proofs.Common.{◌≡◌, eqb, sym, arith}
+use Rattle.std.proofs.Common.{eqb, sym, arith}
 use borrow.Author.Tests.{eq-true, ne_false}
 use Rattle.compactions.specs.Meanings.{run_of}
 use Rattle.marking.proofs.Alike.{lengths_differ, place_differs, place_agrees, all_agree}

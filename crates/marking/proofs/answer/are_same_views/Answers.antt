@@ -13,13 +13,13 @@ pub returns-then-claimed-views : goal.returns-then-claimed-views
 returns-then-claimed-views c =
     sym (lengths_differ (λ v w. same_view (view_of v) w) view_of c.args.claimed.now c.args.views.now c.if-claimed-views.true)
 
-pub returns-then-not-is-same-view : goal.returns-then-not-is-same-view
-returns-then-not-is-same-view c =
-    place_differs (λ v w. same_view (view_of v) w) view_of c.args.claimed.now c.args.views.now c.loop-i.i blank blank (omega arith) (omega arith) c.if-not-is-same-view.ensures c.loop-i.invariant
+pub returns-then-not-is_same_view : goal.returns-then-not-is_same_view
+returns-then-not-is_same_view c =
+    place_differs (λ v w. same_view (view_of v) w) view_of c.args.claimed.now c.args.views.now c.loop-i.i blank blank (omega arith) (omega arith) c.if-not-is_same_view.ensures c.loop-i.invariant
 
 pub loop-i-preserved : goal.loop-i-preserved
 loop-i-preserved c =
-    place_agrees (λ v w. same_view (view_of v) w) view_of c.args.claimed.now c.args.views.now c.loop-i.i blank blank (omega arith) (omega arith) c.if-not-is-same-view.ensures c.loop-i.invariant
+    place_agrees (λ v w. same_view (view_of v) w) view_of c.args.claimed.now c.args.views.now c.loop-i.i blank blank (omega arith) (omega arith) c.if-not-is_same_view.ensures c.loop-i.invariant
 
 pub returns : goal.returns
 returns c =

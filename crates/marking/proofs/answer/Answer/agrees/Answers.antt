@@ -5,4 +5,4 @@ use Rattle.marking.proofs.answer.Answer.agrees.Goals as goal
 
 pub returns : goal.returns
 returns c =
-    c.is-right.ensures ∙ ap is_right c.mark.ensures ∙ right_agrees c.args.self.now (verdict_args c.args.verdict.now)
+    c.is_right.ensures ∙ ap is_right c.mark.ensures ∙ right_agrees c.args.self.now (verdict_args c.args.verdict.now)
