@@ -1,4 +1,6 @@
 // A compaction worker: it claims jobs of a record, runs them on its executor, and settles what became of them.
+#![tactic(auto)]
+
 mod claims;
 pub mod compaction_worker;
 mod dispatch;

@@ -3,9 +3,9 @@ use Rattle.std.proofs.Common.{◌≡◌, ℕ, zero, suc, true, List, [], ◌∷�
 use Rattle.std.specs.List.{slice_get}
 use Rattle.std.proofs.lemmas.Bool.{and_parts, and_from, eq-eqb, eqb-true, false≢true}
 use Rattle.table.proofs.Absurd.{none≢some}
-use Rattle.compactions.specs.Entries.{Sub, Context}
-use Rattle.worker_steps.specs.Extending.{starts_with, sub_extends, subs_extend, same_retention, context_extends}
-use Rattle.worker_steps.specs.ExtendingLaws.{SubKept, ContextKept, ExtendingLaws}
+use Rattle.compactions.specs.Entries.{Sub}
+use Rattle.worker_steps.specs.Extending.{starts_with, sub_extends, subs_extend, same_retention}
+use Rattle.worker_steps.specs.ExtendingLaws.{SubKept, ExtendingLaws}
 
 same_value : {A : Type 0} {x y : A} → Some x ≡ Some y → x ≡ y
 same_value {A} {x} {y} e = ap (λ (o : Option A). unwrap_or o x) e

@@ -1,16 +1,16 @@
 -- A release or a completion changes nothing that the worker holds but the left-behind list, from which its reads may strike ids.
-use Rattle.std.proofs.Common.{◌≡◌, ℕ, zero, suc, ◌+◌, ◌≤◌, Bool, true, false, List, [], ◌∷◌, length, Some, None, Option, sym, refl, ap, ◌∙◌, subst, arith}
-use Rattle.table.specs.Tables.{Ascending, holds, lookup}
+use Rattle.std.proofs.Common.{◌≡◌, ℕ, zero, suc, ◌+◌, Bool, true, false, List, Some, None, Option, sym, refl, ◌∙◌, subst, arith}
+use Rattle.table.specs.Tables.{Ascending, lookup}
 use Rattle.compactions.specs.Entries.{Entry}
-use Rattle.stores.specs.Records.{Record, entry_id}
+use Rattle.stores.specs.Records.{entry_id}
 use Rattle.stores.specs.Stores.{ReadAnswer, got, absent, unread, read}
 use Rattle.worker_steps.specs.States.{Settings, self_id, JobRow, Held, State}
 use Rattle.worker_steps.specs.Tracking.{Tracked}
 use Rattle.worker_steps.specs.Owning.{runs_at, under, still_left}
-use Rattle.worker_steps.specs.Faults.{Fault, Work, release, completion}
+use Rattle.worker_steps.specs.Faults.{release, completion}
 use Rattle.worker_steps.specs.Effects.{Effect, effect_free, Turn, ends, again, turned, retry}
-use Rattle.worker_steps.specs.Looks.{relisted, held_after, looked, on_read}
-use Rattle.worker_steps.specs.Releases.{Settled, dropped, stuck, entry_write, released_as, if_under, release_read, release_attempt, releasing}
+use Rattle.worker_steps.specs.Looks.{held_after, looked, on_read}
+use Rattle.worker_steps.specs.Releases.{Settled, dropped, stuck, if_under, release_read, release_attempt, releasing}
 use Rattle.executors.specs.Executors.{Outcome, done, failed}
 use Rattle.worker_steps.specs.Completions.{ssts, completion_read, completion_attempt, completing}
 use Rattle.worker_steps.specs.Notices.{settling}

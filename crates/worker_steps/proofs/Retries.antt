@@ -1,5 +1,5 @@
 -- Attempts that are tried again: how one turn goes on.
-use Rattle.std.proofs.Common.{◌≡◌, ℕ, suc, ◌+◌, ◌-◌, ◌<◌, ◌≤◌, sym, refl, ap, ◌∙◌, arith}
+use Rattle.std.proofs.Common.{◌≡◌, ℕ, suc, ◌+◌, ◌-◌, ◌<◌, ◌≤◌, sym, ap, ◌∙◌, arith}
 use Rattle.worker_steps.specs.States.{State}
 use Rattle.worker_steps.specs.Effects.{Effect, Turn, ends, again, turned, after_log, retry}
 

@@ -13,10 +13,9 @@ use Rattle.stores.specs.Records.{entry_id}
 use Rattle.worker_steps.specs.States.{JobRow, row_id, self_id}
 use Rattle.worker_steps.specs.Tracking.{Tracked}
 use Rattle.worker_steps.specs.Owning.{is_scheduled, is_running, unclaimed, running_under, some_running_under, runs_at}
-use Rattle.worker_steps.specs.Claims.{Walked, and_stopped, and_chosen, walked, claimed_as, put_all}
-use Rattle.worker_steps.proofs.Rows.{out, flipped, Above, not_held, held, above_less, above_not, ids_holds, ids_ascending, holds-put_same, holds-put_other, length-put_held}
+use Rattle.worker_steps.specs.Claims.{Walked, and_stopped, and_chosen, walked}
+use Rattle.worker_steps.proofs.Rows.{out, Above, not_held, held, above_less, above_not, ids_holds, ids_ascending, holds-put_same, holds-put_other}
 use Rattle.worker_steps.proofs.Tracking.{Trimmed, not_trimmed, trimmed_on, strike_trims, trim, claim_ids}
-use Rattle.table.proofs.Proved.{lawful}
 
 -- how many entries pass a test
 abbrev pub how_many : (Entry → Bool) → List Entry → ℕ

@@ -1,5 +1,5 @@
 -- A claim: which entries a poll chooses, and the update that makes them Running under the worker's number.
-use Rattle.std.specs.Prelude.{ℕ, ◌+◌, ◌-◌, true, false, List, [], ◌∷◌, map, Some, None, Option, nat_lt}
+use Rattle.std.specs.Prelude.{ℕ, ◌+◌, ◌-◌, true, false, List, [], ◌∷◌, map, Some, None, nat_lt}
 use Rattle.table.specs.Tables.{holds, put, strike}
 use Rattle.compactions.specs.Entries.{running, Entry}
 use Rattle.compactions.specs.Jobs.{Args}

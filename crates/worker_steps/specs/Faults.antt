@@ -1,5 +1,5 @@
 -- Why a work ends with a fault, and the numbers of the reasons.
-use Rattle.std.specs.Prelude.{ℕ, Some, None, Ok, Err, Option, Result}
+use Rattle.std.specs.Prelude.{ℕ, Ok, Err, Option, Result}
 use Rattle.std.specs.Option.{option_map}
 use Rattle.table.specs.Ids.{number}
 use Rattle.stores.specs.Stores as stores

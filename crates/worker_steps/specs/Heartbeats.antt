@@ -8,7 +8,7 @@ use Rattle.stores.specs.Stores.{read, update}
 use Rattle.executors.specs.Clocks.{reading, passed, stamped}
 use Rattle.executors.specs.Executors.{job_id}
 use Rattle.worker_steps.specs.Faults.{heartbeat, Fault, fault, store_failed, not_landed, not_extending}
-use Rattle.worker_steps.specs.States.{Settings, JobRow, row_id, Held, with_jobs, State, state, storing, timing, holding}
+use Rattle.worker_steps.specs.States.{Settings, JobRow, row_id, with_jobs, State, storing, timing, holding}
 use Rattle.worker_steps.specs.Owning.{under}
 use Rattle.worker_steps.specs.Effects.{keeps, noted, Effect, effect_free, Turn, ends, on_update, retry}
 use Rattle.worker_steps.specs.Looks.{looked, on_read, Opened, opened, nothing_yet, not_read, first_look}

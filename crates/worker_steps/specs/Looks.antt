@@ -3,7 +3,7 @@ use Rattle.std.specs.Prelude.{ℕ, Bool, true, false, List, None, Option}
 use Rattle.stores.specs.Records.{Record}
 use Rattle.stores.specs.Stores.{ReadAnswer, got, absent, unread, read}
 use Rattle.worker_steps.specs.Faults.{Work, look, Fault, fault, store_failed, record_gone}
-use Rattle.worker_steps.specs.States.{Settings, Held, with_loaded, with_left, State, state, holding}
+use Rattle.worker_steps.specs.States.{Held, with_loaded, with_left, State, state, holding}
 use Rattle.worker_steps.specs.Owning.{still_left}
 use Rattle.worker_steps.specs.Effects.{Effect, effect_free, Turn, ends}
 

@@ -8,7 +8,7 @@ use Rattle.argument_check.specs.Check.{job_args}
 use Rattle.executors.specs.Executors.{job_id, may_start}
 use Rattle.executors.specs.Manifests.{given, behind}
 use Rattle.worker_steps.specs.Faults.{Fault, fault, claim, manifest_failed}
-use Rattle.worker_steps.specs.States.{Settings, JobRow, row_id, Held, with_left, with_jobs, State, state, holding, reading_on}
+use Rattle.worker_steps.specs.States.{Settings, row_id, Held, with_left, with_jobs, State, holding, reading_on}
 use Rattle.worker_steps.specs.Effects.{Written, Effect, effect_free}
 use Rattle.worker_steps.specs.Looks.{Opened, opened, nothing_yet, not_read, first_look}
 use Rattle.worker_steps.specs.Claims.{Claimed, none_chosen, landed_at, broken, claiming, joined}
