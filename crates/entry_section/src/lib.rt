@@ -1,3 +1,5 @@
 // The lines of a paper that describe an entry.
+#![tactic(auto)]
+
 pub mod draft;
 mod parts;

@@ -1,4 +1,6 @@
 // What can be wrong with a line of a paper, and how it is said.
+#![tactic(auto)]
+
 pub mod error;
 pub mod expected;
 pub mod text;
