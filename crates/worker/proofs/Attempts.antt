@@ -1,15 +1,15 @@
 -- One attempt to claim, step by step.
-use Rattle.std.proofs.Common.{◌≡◌, ℕ, ◌+◌, ◌≤◌, true, false, List, [], ◌∷◌, map, length, Some, None, Ok, Err, Result, sym, refl, ap, ◌∙◌, arith}
+use Rattle.std.proofs.Common.{◌≡◌, ℕ, ◌+◌, ◌≤◌, true, List, [], ◌∷◌, map, length, None, Ok, Err, Result, sym, refl, ap, ◌∙◌, arith}
 use Rattle.compactions.specs.Entries.{Entry}
 use Rattle.compactions.specs.Trees.{Manifest}
 use Rattle.stores.specs.Records.{Record}
 use Rattle.stores.specs.Stores.{Store, ReadAnswer, got, absent, unread, read, UpdateAnswer, update}
 use Rattle.executors.specs.Clocks.{Readings, reading, passed, stamped}
 use Rattle.worker_steps.specs.Faults.{claim, Fault, fault, store_failed}
-use Rattle.worker_steps.specs.States.{Settings, Held, with_left, with_jobs, State, state}
-use Rattle.worker_steps.specs.Effects.{claims, noted, Effect, effect_free, Turn, ends, again, on_update}
+use Rattle.worker_steps.specs.States.{Settings, Held, with_jobs, State, state}
+use Rattle.worker_steps.specs.Effects.{Effect, effect_free, Turn, ends, on_update}
 use Rattle.worker_steps.specs.Looks.{held_after, on_read}
-use Rattle.worker_steps.specs.Claims.{Walked, walked, Claimed, none_chosen, landed_at, broken, broken_bare, claim_draft, list_if_faulted, claim_write, claim_chosen, claim_walk, claim_attempt}
+use Rattle.worker_steps.specs.Claims.{walked, Claimed, none_chosen, landed_at, broken, broken_bare, claim_draft, list_if_faulted, claim_write, claim_chosen, claim_walk, claim_attempt}
 use Rattle.worker_steps.specs.declared.fault.During.{During}
 use Rattle.worker_steps.specs.declared.fault.Work.TheVariants as works
 use Rattle.worker.specs.Workers.{record_for}

@@ -1,5 +1,5 @@
 -- The loop of a claim: what each way out of an attempt comes to.
-use Rattle.std.proofs.Common.{◌≡◌, ℕ, zero, suc, ◌+◌, ◌-◌, ◌*◌, ◌<◌, ◌≤◌, List, [], None, Result, sym, refl, ap, ◌∙◌, subst, arith}
+use Rattle.std.proofs.Common.{◌≡◌, ℕ, suc, ◌+◌, ◌-◌, ◌*◌, ◌<◌, ◌≤◌, List, [], None, Result, sym, refl, ap, ◌∙◌, arith}
 use Rattle.compactions.specs.Trees.{Manifest}
 use Rattle.stores.specs.Stores.{Store}
 use Rattle.executors.specs.Clocks.{Readings}
@@ -8,7 +8,7 @@ use Rattle.worker_steps.specs.States.{Settings, Held, State, state}
 use Rattle.worker_steps.specs.Effects.{Effect, Turn, ends, again, after_log, retry}
 use Rattle.worker_steps.specs.Claims.{Claimed, none_chosen, landed_at, broken, broken_bare, claim_attempt, claiming}
 use Rattle.worker_steps.proofs.Retries.{Follows, retry_ends, retry_again, follows_on}
-use Rattle.worker.specs.Polls.{Counts, ClaimEnd, none, landed, faulted, conflict, claim_end, claim_count, left_count, turn_end, turn_claimed, turn_left, counted_turn, counted_claim}
+use Rattle.worker.specs.Polls.{Counts, ClaimEnd, none, landed, faulted, conflict, claim_end, claim_count, left_count, turn_end, counted_turn, counted_claim}
 
 -- what is left when no attempt is
 abbrev pub given_up : Settings → Claimed

@@ -1,5 +1,5 @@
 -- One claimed entry of a dispatch, by what becomes of it.
-use Rattle.std.proofs.Common.{◌≡◌, ℕ, suc, ◌+◌, ◌≤◌, Bool, true, false, cond, List, [], ◌∷◌, ◌++◌, map, length, Some, None, Ok, Err, Option, Result, sym, refl, ap, ◌∙◌, subst, arith}
+use Rattle.std.proofs.Common.{◌≡◌, ℕ, suc, ◌+◌, ◌≤◌, true, false, List, [], ◌∷◌, map, length, Some, None, Option, Result, sym, refl, ap, ◌∙◌, subst, arith}
 use Rattle.compactions.specs.Entries.{Entry}
 use Rattle.compactions.specs.Jobs.{Args}
 use Rattle.compactions.specs.Trees.{Manifest}

@@ -1,5 +1,5 @@
 -- Drafts: their entries are in order and few, and an entry that takes the place of another is never refused.
-use Rattle.std.proofs.Common.{◌≡◌, ℕ, ◌≤◌, true, cond, leb, List, [], ◌∷◌, map, length, take, is_ok, Result, sym, refl, ap, ◌∙◌, arith}
+use Rattle.std.proofs.Common.{◌≡◌, ℕ, ◌≤◌, true, cond, List, ◌∷◌, length, is_ok, Result, sym, ap, ◌∙◌, arith}
 use Rattle.std.specs.List.{AllByRecursion}
 use Rattle.std.proofs.lemmas.List.{length-map, length-take-le}
 use Rattle.std.proofs.lemmas.Bool.{le-leb}
@@ -14,7 +14,7 @@ use Rattle.compactions.specs.declared.refusal.Refusal.{Refusal}
 use Rattle.stores.specs.Records.{Record, entry_id, with_entries}
 use Rattle.stores.specs.Meanings.{entries_of, draft_of}
 use Rattle.stores.specs.declared.draft.Draft.{Draft}
-use Rattle.worker_steps.specs.Claims.{claimed_as, put_all, claim_draft}
+use Rattle.worker_steps.specs.Claims.{claimed_as, claim_draft}
 use Rattle.worker_steps.proofs.Rows.{length-put_held}
 use Rattle.worker_steps.proofs.Walks.{still_held}
 use Rattle.worker.proofs.Pushes.{taken}

@@ -1,5 +1,5 @@
 -- One claim that joins the left-behind list, before those that wait.
-use Rattle.std.proofs.Common.{◌≡◌, ℕ, Bool, List, [], ◌∷◌, map, sym, refl, ap, ◌∙◌, subst}
+use Rattle.std.proofs.Common.{◌≡◌, ℕ, Bool, List, ◌∷◌, map}
 use Rattle.table.specs.Tables.{put}
 use Rattle.compactions.specs.Entries.{Entry}
 use Rattle.compactions.specs.Jobs.{Args}

@@ -1,20 +1,19 @@
 -- Works on one entry: what an attempt comes to by its entry and by the answer to its update.
-use Rattle.std.proofs.Common.{◌≡◌, ℕ, Bool, true, false, List, Some, None, Ok, Err, Option, Result, sym, refl, ap, ◌∙◌, arith}
-use Rattle.table.specs.Tables.{lookup, holds, put}
+use Rattle.std.proofs.Common.{◌≡◌, ℕ, Bool, true, false, List, Some, None, Ok, Err, Option, Result, sym, ap, ◌∙◌}
+use Rattle.table.specs.Tables.{lookup, holds}
 use Rattle.table.proofs.Proved.{lawful}
 use Rattle.compactions.specs.Entries.{Entry}
 use Rattle.compactions.specs.Trees.{Manifest}
 use Rattle.executors.specs.Clocks.{Readings, reading, passed, stamped}
-use Rattle.stores.specs.Records.{Record, entry_id, with_entries}
-use Rattle.stores.specs.Stores.{Store, read, got, UpdateAnswer, landed, conflict, unwritten, update}
+use Rattle.stores.specs.Records.{Record, entry_id}
+use Rattle.stores.specs.Stores.{Store, read, got, UpdateAnswer, update}
 use Rattle.stores.specs.Meanings as stores
 use Rattle.stores.specs.declared.compactions_store.StoreFault.{StoreFault}
 use Rattle.stores.specs.declared.compactions_store.Updated.{Updated}
-use Rattle.stores.specs.declared.compactions_store.Updated.TheVariants.{Landed, Conflict}
-use Rattle.worker_steps.specs.Faults.{Work, release, completion, Fault, fault, fault_during, told_fault, told_as, store_failed}
+use Rattle.worker_steps.specs.Faults.{release, completion, fault_during, told_fault, told_as, store_failed}
 use Rattle.worker_steps.specs.States.{Settings, Held, State, state}
 use Rattle.worker_steps.specs.Owning.{under}
-use Rattle.worker_steps.specs.Effects.{Effect, effect_free, Turn, ends, again, on_update}
+use Rattle.worker_steps.specs.Effects.{Effect, effect_free, Turn, ends, on_update}
 use Rattle.worker_steps.specs.Looks.{held_after, on_read}
 use Rattle.worker_steps.specs.Releases.{Settled, written, dropped, stuck, released_as, entry_write, if_under, release_read, release_attempt}
 use Rattle.worker_steps.specs.Completions.{completed_as, completion_read, completion_attempt}

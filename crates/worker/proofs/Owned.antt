@@ -1,8 +1,8 @@
 -- The invariant of the owned jobs, as a test and as facts.
-use Rattle.std.proofs.Common.{◌≡◌, ℕ, ◌+◌, ◌≤◌, Bool, true, false, cond, ◌&&◌, eqb, leb, ◌⊎◌, List, [], ◌∷◌, map, length, sym, refl, ap, ◌∙◌, subst, inl, inr, arith}
-use Rattle.std.proofs.lemmas.Bool.{cases_eq, leb-true, le-leb, cond_both, false≢true}
+use Rattle.std.proofs.Common.{◌≡◌, ℕ, ◌+◌, ◌≤◌, Bool, true, false, cond, ◌&&◌, ◌⊎◌, List, [], ◌∷◌, map, length, sym, refl, ap, ◌∙◌, subst, inl, inr, arith}
+use Rattle.std.proofs.lemmas.Bool.{cases_eq, leb-true, le-leb, false≢true}
 use Rattle.std.proofs.lemmas.Bool.Decides.{nat_tests}
-use Rattle.table.specs.Tables.{Ascending, ascends, holds, put, admits, strike}
+use Rattle.table.specs.Tables.{Ascending, holds, put, admits, strike}
 use Rattle.table.proofs.Order.{ascending_from}
 use Rattle.table.proofs.Mapped.{ascends-map, put_map, strike-map, admits-map}
 use Rattle.table.specs.Ids.{number}

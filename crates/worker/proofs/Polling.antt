@@ -1,5 +1,5 @@
 -- A poll whose claim landed, put together from its parts.
-use Rattle.std.proofs.Common.{◌≡◌, ℕ, ◌-◌, List, [], ◌∷◌, length, Some, None, Option, Result, sym, refl, ap, ◌∙◌}
+use Rattle.std.proofs.Common.{◌≡◌, ℕ, ◌-◌, List, length, Option, Result, sym, ap, ◌∙◌}
 use Rattle.compactions.specs.Entries.{Entry}
 use Rattle.compactions.specs.Trees.{Manifest}
 use Rattle.stores.specs.Stores.{Store}
@@ -10,7 +10,7 @@ use Rattle.worker_steps.specs.States.{Settings, Held, State, state, reading_on}
 use Rattle.worker_steps.specs.Effects.{Effect}
 use Rattle.worker_steps.specs.Looks.{opened, first_look}
 use Rattle.worker_steps.specs.Claims.{Claimed, none_chosen, landed_at, broken, claiming}
-use Rattle.worker_steps.specs.Polls.{Dispatch, PollAnswer, poll_answer, ended_by, dispatch_given, poll_claimed, polling, poll_opened, poll}
+use Rattle.worker_steps.specs.Polls.{Dispatch, poll_answer, ended_by, dispatch_given, poll_claimed, polling, poll_opened, poll}
 use Rattle.worker.specs.Polls.{Counts, claim_end, landed, claim_count, left_count, counted_claim, poll_answer_by}
 
 pub was_landed : (x : Claimed) (a : ℕ) (cs : List Entry) → landed a cs ≡ claim_end x → x ≡ landed_at a cs

@@ -1,13 +1,12 @@
 -- One entry of the walk, by what becomes of it.
 use Rattle.std.proofs.Common.{◌≡◌, ℕ, suc, ◌+◌, ◌-◌, ◌<◌, ◌≤◌, Bool, true, false, ltb, List, [], ◌∷◌, ◌++◌, length, sym, refl, ap, ◌∙◌, append_assoc, append-nil, zero-add, arith, length-append}
 use Rattle.std.proofs.lemmas.Bool.{lt-ltb, le-ltb, true≢false, false≢true}
-use Rattle.table.specs.Tables.{holds, strike}
+use Rattle.table.specs.Tables.{holds}
 use Rattle.compactions.specs.Entries.{Entry}
 use Rattle.compactions.specs.Jobs.{Args}
-use Rattle.executors.specs.Executors.{job_id}
 use Rattle.worker_steps.specs.States.{JobRow, row_id, Held, with_jobs}
 use Rattle.worker_steps.specs.Owning.{unclaimed}
-use Rattle.worker_steps.specs.Claims.{Walked, and_stopped, and_chosen, walked}
+use Rattle.worker_steps.specs.Claims.{and_chosen, walked}
 use Rattle.worker.specs.Claims.{going_on}
 
 pub at_true : {X : Type 0} (b : Bool) (x y : X) → b ≡ true → elim b [ true ↦ x | false ↦ y ] ≡ x

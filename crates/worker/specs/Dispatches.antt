@@ -1,15 +1,13 @@
 -- What becomes of claimed entries, one by one.
-use Rattle.std.specs.Prelude.{◌≡◌, ℕ, suc, ◌+◌, Bool, cond, List, [], ◌∷◌, map, length, Some, None, Ok, Err, Option, Result}
+use Rattle.std.specs.Prelude.{◌≡◌, ℕ, suc, ◌+◌, List, ◌∷◌, length, Some, None, Ok, Err, Option, Result}
 use Rattle.compactions.specs.Entries.{Entry}
 use Rattle.compactions.specs.Meanings.{entry_of}
 use Rattle.compactions.specs.Trees.{Manifest}
 use Rattle.stores.specs.Stores.{Store}
-use Rattle.stores.specs.Records.{entry_id}
 use Rattle.executors.specs.Clocks.{Readings}
 use Rattle.worker_steps.specs.Faults.{fault_of}
-use Rattle.worker_steps.specs.States.{Settings, Held, with_left, State, state}
+use Rattle.worker_steps.specs.States.{Settings, Held, with_left, state}
 use Rattle.worker_steps.specs.Tracking.{Tracked}
-use Rattle.worker_steps.specs.Effects.{Effect}
 use Rattle.worker_steps.specs.Claims.{joined}
 use Rattle.worker_steps.specs.Polls.{Dispatch, dispatching}
 use Rattle.worker_steps.specs.declared.fault.WorkerFault.{WorkerFault}

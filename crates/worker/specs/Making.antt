@@ -1,8 +1,8 @@
 -- The making of a worker.
-use Rattle.std.specs.Prelude.{◌≡◌, ℕ, Bool, false, ◌&&◌, List, [], Some, None, Ok, Err, Option, Result, nat_le}
+use Rattle.std.specs.Prelude.{◌≡◌, ℕ, false, ◌&&◌, List, [], Some, None, Ok, Err, Option, Result, nat_le}
 use Rattle.compactions.specs.Jobs.{Args}
 use Rattle.compactions.specs.Refusals.{number_of, unless_either}
-use Rattle.worker_steps.specs.States.{Settings, Held}
+use Rattle.worker_steps.specs.States.{Settings}
 use Rattle.worker.specs.Workers.{held_of, settings_of}
 use Rattle.worker.specs.declared.compaction_worker.CompactionWorker.{CompactionWorker}
 use Rattle.worker.specs.declared.making.Unmade.{Unmade}

@@ -1,16 +1,15 @@
 -- What the answers of a poll and of its parts mean.
-use Rattle.std.specs.Prelude.{ℕ, ◌+◌, Bool, true, false, List, [], map, length, Some, None, Ok, Err, Option, Result}
+use Rattle.std.specs.Prelude.{ℕ, ◌+◌, Bool, true, false, List, map, length, Some, None, Ok, Err, Option, Result}
 use Rattle.compactions.specs.Entries.{Entry}
 use Rattle.stores.specs.Records.{entry_id}
 use Rattle.worker_steps.specs.Faults.{Fault, fault_of}
-use Rattle.worker_steps.specs.States.{JobRow, Held}
+use Rattle.worker_steps.specs.States.{Held}
 use Rattle.worker_steps.specs.Tracking.{Tracked}
-use Rattle.worker_steps.specs.Effects.{Turn, ends, again, Effect}
+use Rattle.worker_steps.specs.Effects.{Turn, ends, again}
 use Rattle.worker_steps.specs.Claims as steps
 use Rattle.worker_steps.specs.Polls as polls
 use Rattle.worker_steps.specs.declared.fault.WorkerFault.{WorkerFault}
 use Rattle.worker.specs.Claims.{waiting}
-use Rattle.worker.specs.declared.claims.Claims.{Claims}
 use Rattle.worker.specs.declared.polls.PollCounts.{PollCounts}
 use Rattle.worker.specs.declared.polls.PollEnd.{PollEnd}
 use Rattle.worker.specs.declared.polls.PollEnd.TheVariants.{NothingYet, Done, Faulted}

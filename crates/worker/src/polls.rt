@@ -45,7 +45,7 @@ pub struct LandedClaims {
 
 impl PollCounts {
     pub(crate) fn new() -> PollCounts
-        ensures { counts_of result ≡ record { claimed = 0; started = 0; let-go = 0; left = 0; stopped = 0 } }
+        ensures { counts_of result ≡ record { claimed = 0; started = 0; let_go = 0; left = 0; stopped = 0 } }
     {
         PollCounts {
             claimed: 0,

@@ -54,8 +54,8 @@ pub(crate) fn hand_in<S: CompactionsStore>(
     during: During,
 ) -> Result<SettleTurn, WorkerFault>
     requires { holds entry_id (entry_of entry).id (draft_of draft).entries ≡ true }
-    ensures answer { settle_turn_of result ≡ on_update (update (with_entries (draft_of draft) (put entry_id (entry_of entry) (draft_of draft).entries)) (meaning store.old)).answer written (λ f. stuck (fault_during (store_failed f) during)) }
-    ensures after { meaning store.new ≡ (update (with_entries (draft_of draft) (put entry_id (entry_of entry) (draft_of draft).entries)) (meaning store.old)).after }
+    ensures answer { settle_turn_of result ≡ on_update (update (with_entries (draft_of draft) (put entry_id (entry_of entry) (draft_of draft).entries)) (S.meaning store.old)).answer written (λ f. stuck (fault_during (store_failed f) during)) }
+    ensures after { S.meaning store.new ≡ (update (with_entries (draft_of draft) (put entry_id (entry_of entry) (draft_of draft).entries)) (S.meaning store.old)).after }
 {
     let mut draft = draft;
     let _ = draft.insert(entry);

@@ -46,9 +46,9 @@ fn mark_running(draft: &mut Draft, chosen: &[Compaction], worker: WorkerSpec)
 impl<E: CompactionExecutor> CompactionWorker<E> {
     // Each claim that waits joins the left-behind list.
     pub(super) fn leave_all(&mut self, mut claims: Claims)
-        requires { Tracked self.old.owned.maximum (map entry_id (waiting claims)) (held_of (jobs self.old.executor).list self.old).table (held_of (jobs self.old.executor).list self.old).left }
-        ensures held { held_of (jobs self.new.executor).list self.new ≡ with_left (held_of (jobs self.old.executor).list self.old) (joined (waiting claims) (held_of (jobs self.old.executor).list self.old).left) }
-        ensures settings { settings_of places.count self.new ≡ settings_of places.count self.old }
+        requires { Tracked self.old.owned.maximum (map entry_id (waiting claims)) (held_of (E.jobs self.old.executor).list self.old).table (held_of (E.jobs self.old.executor).list self.old).left }
+        ensures held { held_of (E.jobs self.new.executor).list self.new ≡ with_left (held_of (E.jobs self.old.executor).list self.old) (joined (waiting claims) (held_of (E.jobs self.old.executor).list self.old).left) }
+        ensures settings { settings_of E.places.count self.new ≡ settings_of E.places.count self.old }
     {
         while let Some(claim) = claims.take() {
             self.owned.leave(claim.spend());
@@ -67,15 +67,15 @@ impl<E: CompactionExecutor> CompactionWorker<E> {
         counts: &mut PollCounts,
     ) -> Result<ClaimTurn, WorkerFault>
         requires small { capacity ≤ 8 }
-        requires room { capacity + length (held_of (jobs self.old.executor).list self.old).table ≤ self.old.owned.maximum }
+        requires room { capacity + length (held_of (E.jobs self.old.executor).list self.old).table ≤ self.old.owned.maximum }
         requires few { (counts.old.stopped ≤ 32 * attempt) × (attempt ≤ 64) }
         requires fresh { (counts.old.claimed ≡ 0) × (counts.old.left ≡ 0) }
-        ensures answer { (ms : List (Result Manifest ℕ)) → turn_of attempt result ≡ turn_end (claim_attempt (settings_of places.count self.old) capacity attempt (state (held_of (jobs self.old.executor).list self.old) (meaning store.old) (readings_of clock.old) ms)).result }
-        ensures counts { (ms : List (Result Manifest ℕ)) → counts_of counts.new ≡ counted_turn (counts_of counts.old) (claim_attempt (settings_of places.count self.old) capacity attempt (state (held_of (jobs self.old.executor).list self.old) (meaning store.old) (readings_of clock.old) ms)).result (claim_attempt (settings_of places.count self.old) capacity attempt (state (held_of (jobs self.old.executor).list self.old) (meaning store.old) (readings_of clock.old) ms)).stopped }
-        ensures after { (ms : List (Result Manifest ℕ)) → state (held_of (jobs self.new.executor).list self.new) (meaning store.new) (readings_of clock.new) ms ≡ (claim_attempt (settings_of places.count self.old) capacity attempt (state (held_of (jobs self.old.executor).list self.old) (meaning store.old) (readings_of clock.old) ms)).state }
-        ensures settings { settings_of places.count self.new ≡ settings_of places.count self.old }
-        ensures pending { PendingTurn self.new.owned.maximum (held_of (jobs self.new.executor).list self.new) result }
-        ensures room { capacity + length (held_of (jobs self.new.executor).list self.new).table ≤ self.new.owned.maximum }
+        ensures answer { (ms : List (Result Manifest ℕ)) → turn_of attempt result ≡ turn_end (claim_attempt (settings_of E.places.count self.old) capacity attempt (state (held_of (E.jobs self.old.executor).list self.old) (S.meaning store.old) (readings_of clock.old) ms)).result }
+        ensures counts { (ms : List (Result Manifest ℕ)) → counts_of counts.new ≡ counted_turn (counts_of counts.old) (claim_attempt (settings_of E.places.count self.old) capacity attempt (state (held_of (E.jobs self.old.executor).list self.old) (S.meaning store.old) (readings_of clock.old) ms)).result (claim_attempt (settings_of E.places.count self.old) capacity attempt (state (held_of (E.jobs self.old.executor).list self.old) (S.meaning store.old) (readings_of clock.old) ms)).stopped }
+        ensures after { (ms : List (Result Manifest ℕ)) → state (held_of (E.jobs self.new.executor).list self.new) (S.meaning store.new) (readings_of clock.new) ms ≡ (claim_attempt (settings_of E.places.count self.old) capacity attempt (state (held_of (E.jobs self.old.executor).list self.old) (S.meaning store.old) (readings_of clock.old) ms)).state }
+        ensures settings { settings_of E.places.count self.new ≡ settings_of E.places.count self.old }
+        ensures pending { PendingTurn self.new.owned.maximum (held_of (E.jobs self.new.executor).list self.new) result }
+        ensures room { capacity + length (held_of (E.jobs self.new.executor).list self.new).table ≤ self.new.owned.maximum }
         ensures few { counts.new.stopped ≤ 32 * (attempt + 1) }
     {
         let during = During {
@@ -120,11 +120,11 @@ impl<E: CompactionExecutor> CompactionWorker<E> {
         counts: &mut PollCounts,
     ) -> Result<Option<LandedClaims>, WorkerFault>
         requires { (counts.old.claimed ≡ 0) × ((counts.old.left ≡ 0) × (counts.old.stopped ≡ 0)) }
-        ensures answer { (ms : List (Result Manifest ℕ)) → claim_of result ≡ claim_end (claiming (settings_of places.count self.old) (self.old.owned.maximum - length (held_of (jobs self.old.executor).list self.old).table) (state (held_of (jobs self.old.executor).list self.old) (meaning store.old) (readings_of clock.old) ms)).result }
-        ensures counts { (ms : List (Result Manifest ℕ)) → counts_of counts.new ≡ counted_claim (counts_of counts.old) (claiming (settings_of places.count self.old) (self.old.owned.maximum - length (held_of (jobs self.old.executor).list self.old).table) (state (held_of (jobs self.old.executor).list self.old) (meaning store.old) (readings_of clock.old) ms)).result (claiming (settings_of places.count self.old) (self.old.owned.maximum - length (held_of (jobs self.old.executor).list self.old).table) (state (held_of (jobs self.old.executor).list self.old) (meaning store.old) (readings_of clock.old) ms)).stopped }
-        ensures after { (ms : List (Result Manifest ℕ)) → state (held_of (jobs self.new.executor).list self.new) (meaning store.new) (readings_of clock.new) ms ≡ (claiming (settings_of places.count self.old) (self.old.owned.maximum - length (held_of (jobs self.old.executor).list self.old).table) (state (held_of (jobs self.old.executor).list self.old) (meaning store.old) (readings_of clock.old) ms)).state }
-        ensures settings { settings_of places.count self.new ≡ settings_of places.count self.old }
-        ensures pending { PendingClaim self.new.owned.maximum (held_of (jobs self.new.executor).list self.new) result }
+        ensures answer { (ms : List (Result Manifest ℕ)) → claim_of result ≡ claim_end (claiming (settings_of E.places.count self.old) (self.old.owned.maximum - length (held_of (E.jobs self.old.executor).list self.old).table) (state (held_of (E.jobs self.old.executor).list self.old) (S.meaning store.old) (readings_of clock.old) ms)).result }
+        ensures counts { (ms : List (Result Manifest ℕ)) → counts_of counts.new ≡ counted_claim (counts_of counts.old) (claiming (settings_of E.places.count self.old) (self.old.owned.maximum - length (held_of (E.jobs self.old.executor).list self.old).table) (state (held_of (E.jobs self.old.executor).list self.old) (S.meaning store.old) (readings_of clock.old) ms)).result (claiming (settings_of E.places.count self.old) (self.old.owned.maximum - length (held_of (E.jobs self.old.executor).list self.old).table) (state (held_of (E.jobs self.old.executor).list self.old) (S.meaning store.old) (readings_of clock.old) ms)).stopped }
+        ensures after { (ms : List (Result Manifest ℕ)) → state (held_of (E.jobs self.new.executor).list self.new) (S.meaning store.new) (readings_of clock.new) ms ≡ (claiming (settings_of E.places.count self.old) (self.old.owned.maximum - length (held_of (E.jobs self.old.executor).list self.old).table) (state (held_of (E.jobs self.old.executor).list self.old) (S.meaning store.old) (readings_of clock.old) ms)).state }
+        ensures settings { settings_of E.places.count self.new ≡ settings_of E.places.count self.old }
+        ensures pending { PendingClaim self.new.owned.maximum (held_of (E.jobs self.new.executor).list self.new) result }
     {
         let capacity = self.owned.capacity();
         let mut attempt = 1;

@@ -53,9 +53,9 @@ impl<E: CompactionExecutor> CompactionWorker<E> {
         run: &SortedRun,
         attempt: u32,
     ) -> Result<SettleTurn, WorkerFault>
-        ensures answer { (ms : List (Result Manifest ℕ)) → settle_turn_of result ≡ (completion_attempt (settings_of places.count self.old) (id-number id) (ssts (run_of run.now)) attempt (state (held_of (jobs self.old.executor).list self.old) (meaning store.old) (readings_of clock.old) ms)).result }
-        ensures after { (ms : List (Result Manifest ℕ)) → state (held_of (jobs self.new.executor).list self.new) (meaning store.new) (readings_of clock.new) ms ≡ (completion_attempt (settings_of places.count self.old) (id-number id) (ssts (run_of run.now)) attempt (state (held_of (jobs self.old.executor).list self.old) (meaning store.old) (readings_of clock.old) ms)).state }
-        ensures settings { settings_of places.count self.new ≡ settings_of places.count self.old }
+        ensures answer { (ms : List (Result Manifest ℕ)) → settle_turn_of result ≡ (completion_attempt (settings_of E.places.count self.old) (id-number id) (ssts (run_of run.now)) attempt (state (held_of (E.jobs self.old.executor).list self.old) (S.meaning store.old) (readings_of clock.old) ms)).result }
+        ensures after { (ms : List (Result Manifest ℕ)) → state (held_of (E.jobs self.new.executor).list self.new) (S.meaning store.new) (readings_of clock.new) ms ≡ (completion_attempt (settings_of E.places.count self.old) (id-number id) (ssts (run_of run.now)) attempt (state (held_of (E.jobs self.old.executor).list self.old) (S.meaning store.old) (readings_of clock.old) ms)).state }
+        ensures settings { settings_of E.places.count self.new ≡ settings_of E.places.count self.old }
     {
         let during = During {
             work: Work::Completion,
@@ -81,9 +81,9 @@ impl<E: CompactionExecutor> CompactionWorker<E> {
         id: Ulid,
         run: &SortedRun,
     ) -> Result<Settled, WorkerFault>
-        ensures answer { (ms : List (Result Manifest ℕ)) → settled_of result ≡ (completing (settings_of places.count self.old) (id-number id) (ssts (run_of run.now)) (state (held_of (jobs self.old.executor).list self.old) (meaning store.old) (readings_of clock.old) ms)).result }
-        ensures after { (ms : List (Result Manifest ℕ)) → state (held_of (jobs self.new.executor).list self.new) (meaning store.new) (readings_of clock.new) ms ≡ (completing (settings_of places.count self.old) (id-number id) (ssts (run_of run.now)) (state (held_of (jobs self.old.executor).list self.old) (meaning store.old) (readings_of clock.old) ms)).state }
-        ensures settings { settings_of places.count self.new ≡ settings_of places.count self.old }
+        ensures answer { (ms : List (Result Manifest ℕ)) → settled_of result ≡ (completing (settings_of E.places.count self.old) (id-number id) (ssts (run_of run.now)) (state (held_of (E.jobs self.old.executor).list self.old) (S.meaning store.old) (readings_of clock.old) ms)).result }
+        ensures after { (ms : List (Result Manifest ℕ)) → state (held_of (E.jobs self.new.executor).list self.new) (S.meaning store.new) (readings_of clock.new) ms ≡ (completing (settings_of E.places.count self.old) (id-number id) (ssts (run_of run.now)) (state (held_of (E.jobs self.old.executor).list self.old) (S.meaning store.old) (readings_of clock.old) ms)).state }
+        ensures settings { settings_of E.places.count self.new ≡ settings_of E.places.count self.old }
     {
         let mut attempt = 1;
         'attempts: loop {

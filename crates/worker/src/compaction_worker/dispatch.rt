@@ -28,10 +28,10 @@ impl<E: CompactionExecutor> CompactionWorker<E> {
     // Starts a claimed entry and adds its row, if it passes the argument check and the executor says
     // yes; else the claim comes back.
     fn start(&mut self, claim: Claim, manifest: &Manifest) -> Result<(), Claim>
-        requires { Tracked self.old.owned.maximum ((entry_of claim.entry).id ∷ []) (held_of (jobs self.old.executor).list self.old).table (held_of (jobs self.old.executor).list self.old).left }
-        ensures answer { given_back result ≡ (if may_run places.count (job_args (entry_of claim.entry) (manifest_of manifest.now)) (jobs self.old.executor).list then None else Some (entry_of claim.entry)) }
-        ensures held { held_of (jobs self.new.executor).list self.new ≡ (if may_run places.count (job_args (entry_of claim.entry) (manifest_of manifest.now)) (jobs self.old.executor).list then with_started (entry_of claim.entry) (job_args (entry_of claim.entry) (manifest_of manifest.now)) (held_of (jobs self.old.executor).list self.old) else held_of (jobs self.old.executor).list self.old) }
-        ensures settings { settings_of places.count self.new ≡ settings_of places.count self.old }
+        requires { Tracked self.old.owned.maximum ((entry_of claim.entry).id ∷ []) (held_of (E.jobs self.old.executor).list self.old).table (held_of (E.jobs self.old.executor).list self.old).left }
+        ensures answer { given_back result ≡ (if may_run E.places.count (job_args (entry_of claim.entry) (manifest_of manifest.now)) (E.jobs self.old.executor).list then None else Some (entry_of claim.entry)) }
+        ensures held { held_of (E.jobs self.new.executor).list self.new ≡ (if may_run E.places.count (job_args (entry_of claim.entry) (manifest_of manifest.now)) (E.jobs self.old.executor).list then with_started (entry_of claim.entry) (job_args (entry_of claim.entry) (manifest_of manifest.now)) (held_of (E.jobs self.old.executor).list self.old) else held_of (E.jobs self.old.executor).list self.old) }
+        ensures settings { settings_of E.places.count self.new ≡ settings_of E.places.count self.old }
     {
         let entry = *claim.entry();
         let Ok(args) = build_job_args(&entry, manifest) else {
@@ -55,10 +55,10 @@ impl<E: CompactionExecutor> CompactionWorker<E> {
         claim: Claim,
         counts: &mut PollCounts,
     ) -> Result<(), Unreleased>
-        requires pending { Tracked self.old.owned.maximum ((entry_of claim.entry).id ∷ []) (held_of (jobs self.old.executor).list self.old).table (held_of (jobs self.old.executor).list self.old).left }
+        requires pending { Tracked self.old.owned.maximum ((entry_of claim.entry).id ∷ []) (held_of (E.jobs self.old.executor).list self.old).table (held_of (E.jobs self.old.executor).list self.old).left }
         requires few { counts.old.started + counts.old.let_go ≤ 8 }
-        ensures step { SettleStep (settings_of places.count self.old) (manifest_of manifest.now) (entry_of claim.entry) result (held_of (jobs self.old.executor).list self.old) (meaning store.old) (counts_of counts.old) (held_of (jobs self.new.executor).list self.new) (meaning store.new) (counts_of counts.new) }
-        ensures settings { settings_of places.count self.new ≡ settings_of places.count self.old }
+        ensures step { SettleStep (settings_of E.places.count self.old) (manifest_of manifest.now) (entry_of claim.entry) result (held_of (E.jobs self.old.executor).list self.old) (S.meaning store.old) (counts_of counts.old) (held_of (E.jobs self.new.executor).list self.new) (S.meaning store.new) (counts_of counts.new) }
+        ensures settings { settings_of E.places.count self.new ≡ settings_of E.places.count self.old }
     {
         match self.start(claim, manifest) {
             Ok(()) => {
@@ -85,12 +85,12 @@ impl<E: CompactionExecutor> CompactionWorker<E> {
         mut claims: Claims,
         counts: &mut PollCounts,
     ) -> Result<(), WorkerFault>
-        requires pending { Tracked self.old.owned.maximum (map entry_id (waiting claims)) (held_of (jobs self.old.executor).list self.old).table (held_of (jobs self.old.executor).list self.old).left }
+        requires pending { Tracked self.old.owned.maximum (map entry_id (waiting claims)) (held_of (E.jobs self.old.executor).list self.old).table (held_of (E.jobs self.old.executor).list self.old).left }
         requires fresh { (counts.old.started ≡ 0) × ((counts.old.let_go ≡ 0) × (counts.old.left ≡ 0)) }
-        ensures answer { (k : Readings) (ms : List (Result ManifestMeaning ℕ)) → dispatch_of result (counts_of counts.new) ≡ (dispatching (settings_of places.count self.old) (manifest_of manifest.now) (waiting claims) (state (held_of (jobs self.old.executor).list self.old) (meaning store.old) k ms)).result }
-        ensures after { (k : Readings) (ms : List (Result ManifestMeaning ℕ)) → state (held_of (jobs self.new.executor).list self.new) (meaning store.new) k ms ≡ (dispatching (settings_of places.count self.old) (manifest_of manifest.now) (waiting claims) (state (held_of (jobs self.old.executor).list self.old) (meaning store.old) k ms)).state }
+        ensures answer { (k : Readings) (ms : List (Result ManifestMeaning ℕ)) → dispatch_of result (counts_of counts.new) ≡ (dispatching (settings_of E.places.count self.old) (manifest_of manifest.now) (waiting claims) (state (held_of (E.jobs self.old.executor).list self.old) (S.meaning store.old) k ms)).result }
+        ensures after { (k : Readings) (ms : List (Result ManifestMeaning ℕ)) → state (held_of (E.jobs self.new.executor).list self.new) (S.meaning store.new) k ms ≡ (dispatching (settings_of E.places.count self.old) (manifest_of manifest.now) (waiting claims) (state (held_of (E.jobs self.old.executor).list self.old) (S.meaning store.old) k ms)).state }
         ensures claimed { (counts.new.claimed ≡ counts.old.claimed) × (counts.new.stopped ≡ counts.old.stopped) }
-        ensures settings { settings_of places.count self.new ≡ settings_of places.count self.old }
+        ensures settings { settings_of E.places.count self.new ≡ settings_of E.places.count self.old }
     {
         while let Some(claim) = claims.take() {
             if let Err(unreleased) = self.settle(store, manifest, claim, counts) {

@@ -23,7 +23,7 @@ impl<E: CompactionExecutor> CompactionWorker<E> {
         limit: u32,
     ) -> Result<CompactionWorker<E>, Unmade<E>>
         ensures refused { making_refused result ≡ settings_refused maximum limit }
-        ensures made { Made (λ e. (jobs e).list) (record { number = number; maximum = maximum; limit = limit; places = places.count }) executor result }
+        ensures made { Made (λ e. (E.jobs e).list) (record { number = number; maximum = maximum; limit = limit; places = E.places.count }) executor result }
     {
         if maximum > 8 {
             return Err(Unmade {
@@ -50,21 +50,21 @@ impl<E: CompactionExecutor> CompactionWorker<E> {
 
     // Whether a record was found.
     pub fn is_loaded(&self) -> bool
-        ensures { result ≡ (held_of (jobs self.now.executor).list self.now).loaded }
+        ensures { result ≡ (held_of (E.jobs self.now.executor).list self.now).loaded }
     {
         self.loaded
     }
 
     // The job table, ascending by id.
     pub fn job_progress(&self) -> &[Progress]
-        ensures { map row_of result.now ≡ (held_of (jobs self.now.executor).list self.now).table }
+        ensures { map row_of result.now ≡ (held_of (E.jobs self.now.executor).list self.now).table }
     {
         self.owned.rows()
     }
 
     // The left-behind list, ascending.
     pub fn left_behind(&self) -> &[Ulid]
-        ensures { map id-number result.now ≡ (held_of (jobs self.now.executor).list self.now).left }
+        ensures { map id-number result.now ≡ (held_of (E.jobs self.now.executor).list self.now).left }
     {
         self.owned.listed()
     }

@@ -28,9 +28,9 @@ use worker_steps::fault::WorkerFault;
 impl<E: CompactionExecutor> CompactionWorker<E> {
     // Replaces the context of a job's row; says whether the job has one.
     fn record_progress(&mut self, id: Ulid, ctx: CompactionContext) -> bool
-        ensures value { result ≡ holds row_id (id-number id) (held_of (jobs self.old.executor).list self.old).table }
-        ensures held { held_of (jobs self.new.executor).list self.new ≡ (if result then with_progress (id-number id) (context_of ctx) (held_of (jobs self.old.executor).list self.old) else held_of (jobs self.old.executor).list self.old) }
-        ensures settings { settings_of places.count self.new ≡ settings_of places.count self.old }
+        ensures value { result ≡ holds row_id (id-number id) (held_of (E.jobs self.old.executor).list self.old).table }
+        ensures held { held_of (E.jobs self.new.executor).list self.new ≡ (if result then with_progress (id-number id) (context_of ctx) (held_of (E.jobs self.old.executor).list self.old) else held_of (E.jobs self.old.executor).list self.old) }
+        ensures settings { settings_of E.places.count self.new ≡ settings_of E.places.count self.old }
     {
         self.owned.set_context(Progress { id, ctx: Some(ctx) })
     }
@@ -43,9 +43,9 @@ impl<E: CompactionExecutor> CompactionWorker<E> {
         id: Ulid,
         res: Result<SortedRun, u32>,
     ) -> Result<Settled, WorkerFault>
-        ensures answer { (ms : List (Result Manifest ℕ)) → settled_of result ≡ (settling (settings_of places.count self.old) (id-number id) (outcome_of res) (state (held_of (jobs self.old.executor).list self.old) (meaning store.old) (readings_of clock.old) ms)).result }
-        ensures after { (ms : List (Result Manifest ℕ)) → state (held_of (jobs self.new.executor).list self.new) (meaning store.new) (readings_of clock.new) ms ≡ (settling (settings_of places.count self.old) (id-number id) (outcome_of res) (state (held_of (jobs self.old.executor).list self.old) (meaning store.old) (readings_of clock.old) ms)).state }
-        ensures settings { settings_of places.count self.new ≡ settings_of places.count self.old }
+        ensures answer { (ms : List (Result Manifest ℕ)) → settled_of result ≡ (settling (settings_of E.places.count self.old) (id-number id) (outcome_of res) (state (held_of (E.jobs self.old.executor).list self.old) (S.meaning store.old) (readings_of clock.old) ms)).result }
+        ensures after { (ms : List (Result Manifest ℕ)) → state (held_of (E.jobs self.new.executor).list self.new) (S.meaning store.new) (readings_of clock.new) ms ≡ (settling (settings_of E.places.count self.old) (id-number id) (outcome_of res) (state (held_of (E.jobs self.old.executor).list self.old) (S.meaning store.old) (readings_of clock.old) ms)).state }
+        ensures settings { settings_of E.places.count self.new ≡ settings_of E.places.count self.old }
     {
         match res {
             Ok(run) => self.write_compacted(store, clock, id, &run),
@@ -62,9 +62,9 @@ impl<E: CompactionExecutor> CompactionWorker<E> {
         id: Ulid,
         res: Result<SortedRun, u32>,
     ) -> Result<Settled, WorkerFault>
-        ensures answer { (ms : List (Result Manifest ℕ)) → noticed_by (settled_of result) ≡ (handled (settings_of places.count self.old) (finished (id-number id) (outcome_of res)) (state (held_of (jobs self.old.executor).list self.old) (meaning store.old) (readings_of clock.old) ms)).result }
-        ensures after { (ms : List (Result Manifest ℕ)) → state (held_of (jobs self.new.executor).list self.new) (meaning store.new) (readings_of clock.new) ms ≡ (handled (settings_of places.count self.old) (finished (id-number id) (outcome_of res)) (state (held_of (jobs self.old.executor).list self.old) (meaning store.old) (readings_of clock.old) ms)).state }
-        ensures settings { settings_of places.count self.new ≡ settings_of places.count self.old }
+        ensures answer { (ms : List (Result Manifest ℕ)) → noticed_by (settled_of result) ≡ (handled (settings_of E.places.count self.old) (finished (id-number id) (outcome_of res)) (state (held_of (E.jobs self.old.executor).list self.old) (S.meaning store.old) (readings_of clock.old) ms)).result }
+        ensures after { (ms : List (Result Manifest ℕ)) → state (held_of (E.jobs self.new.executor).list self.new) (S.meaning store.new) (readings_of clock.new) ms ≡ (handled (settings_of E.places.count self.old) (finished (id-number id) (outcome_of res)) (state (held_of (E.jobs self.old.executor).list self.old) (S.meaning store.old) (readings_of clock.old) ms)).state }
+        ensures settings { settings_of E.places.count self.new ≡ settings_of E.places.count self.old }
     {
         if !self.owned.strike_row(id) {
             return Ok(Settled::Dropped);
@@ -84,9 +84,9 @@ impl<E: CompactionExecutor> CompactionWorker<E> {
         clock: &mut ListClock,
         message: WorkerMessage,
     ) -> NoticeAnswer
-        ensures answer { (ms : List (Result Manifest ℕ)) → noticed_of result ≡ (handled (settings_of places.count self.old) (notice_of message) (state (held_of (jobs self.old.executor).list self.old) (meaning store.old) (readings_of clock.old) ms)).result }
-        ensures after { (ms : List (Result Manifest ℕ)) → state (held_of (jobs self.new.executor).list self.new) (meaning store.new) (readings_of clock.new) ms ≡ (handled (settings_of places.count self.old) (notice_of message) (state (held_of (jobs self.old.executor).list self.old) (meaning store.old) (readings_of clock.old) ms)).state }
-        ensures settings { settings_of places.count self.new ≡ settings_of places.count self.old }
+        ensures answer { (ms : List (Result Manifest ℕ)) → noticed_of result ≡ (handled (settings_of E.places.count self.old) (notice_of message) (state (held_of (E.jobs self.old.executor).list self.old) (S.meaning store.old) (readings_of clock.old) ms)).result }
+        ensures after { (ms : List (Result Manifest ℕ)) → state (held_of (E.jobs self.new.executor).list self.new) (S.meaning store.new) (readings_of clock.new) ms ≡ (handled (settings_of E.places.count self.old) (notice_of message) (state (held_of (E.jobs self.old.executor).list self.old) (S.meaning store.old) (readings_of clock.old) ms)).state }
+        ensures settings { settings_of E.places.count self.new ≡ settings_of E.places.count self.old }
     {
         match message {
             WorkerMessage::CompactionJobProgress { id, ctx } => {
@@ -114,8 +114,8 @@ impl<E: CompactionExecutor> CompactionWorker<E> {
         store: &mut S,
         clock: &mut ListClock,
     ) -> NoticeAnswer
-        ensures steps { Noticing (settings_of places.count self.old) (state (held_of (jobs self.old.executor).list self.old) (meaning store.old) (readings_of clock.old)) (noticed_of result) (state (held_of (jobs self.new.executor).list self.new) (meaning store.new) (readings_of clock.new)) }
-        ensures settings { settings_of places.count self.new ≡ settings_of places.count self.old }
+        ensures steps { Noticing (settings_of E.places.count self.old) (state (held_of (E.jobs self.old.executor).list self.old) (S.meaning store.old) (readings_of clock.old)) (noticed_of result) (state (held_of (E.jobs self.new.executor).list self.new) (S.meaning store.new) (readings_of clock.new)) }
+        ensures settings { settings_of E.places.count self.new ≡ settings_of E.places.count self.old }
     {
         match self.ensure_loaded(store) {
             Ok(loaded) => {

@@ -20,10 +20,10 @@ impl<E: CompactionExecutor> CompactionWorker<E> {
         &mut self,
         store: &mut S,
     ) -> Result<Option<Draft>, StoreFault>
-        ensures answer { read_answer_of result ≡ (read (meaning store.old)).answer }
-        ensures store { meaning store.new ≡ (read (meaning store.old)).after }
-        ensures held { held_of (jobs self.new.executor).list self.new ≡ held_after self.old.number (read (meaning store.old)).answer (held_of (jobs self.old.executor).list self.old) }
-        ensures settings { settings_of places.count self.new ≡ settings_of places.count self.old }
+        ensures answer { read_answer_of result ≡ (read (S.meaning store.old)).answer }
+        ensures store { S.meaning store.new ≡ (read (S.meaning store.old)).after }
+        ensures held { held_of (E.jobs self.new.executor).list self.new ≡ held_after self.old.number (read (S.meaning store.old)).answer (held_of (E.jobs self.old.executor).list self.old) }
+        ensures settings { settings_of E.places.count self.new ≡ settings_of E.places.count self.old }
     {
         let Some(draft) = store.read()? else {
             return Ok(None);
@@ -38,10 +38,10 @@ impl<E: CompactionExecutor> CompactionWorker<E> {
         store: &mut S,
         during: During,
     ) -> Result<Draft, WorkerFault>
-        ensures answer { read_of result ≡ record_for during (read (meaning store.old)).answer }
-        ensures store { meaning store.new ≡ (read (meaning store.old)).after }
-        ensures held { held_of (jobs self.new.executor).list self.new ≡ held_after self.old.number (read (meaning store.old)).answer (held_of (jobs self.old.executor).list self.old) }
-        ensures settings { settings_of places.count self.new ≡ settings_of places.count self.old }
+        ensures answer { read_of result ≡ record_for during (read (S.meaning store.old)).answer }
+        ensures store { S.meaning store.new ≡ (read (S.meaning store.old)).after }
+        ensures held { held_of (E.jobs self.new.executor).list self.new ≡ held_after self.old.number (read (S.meaning store.old)).answer (held_of (E.jobs self.old.executor).list self.old) }
+        ensures settings { settings_of E.places.count self.new ≡ settings_of E.places.count self.old }
     {
         let Some(draft) = during.tell(self.read_record(store))? else {
             let fault = StoreFault {
@@ -58,9 +58,9 @@ impl<E: CompactionExecutor> CompactionWorker<E> {
         &mut self,
         store: &mut S,
     ) -> Result<bool, WorkerFault>
-        ensures found { (c : Readings) (ms : List (Result Manifest ℕ)) → opened_of result ≡ (first_look self.old.number (state (held_of (jobs self.old.executor).list self.old) (meaning store.old) c ms)).found }
-        ensures after { (c : Readings) (ms : List (Result Manifest ℕ)) → state (held_of (jobs self.new.executor).list self.new) (meaning store.new) c ms ≡ (first_look self.old.number (state (held_of (jobs self.old.executor).list self.old) (meaning store.old) c ms)).state }
-        ensures settings { settings_of places.count self.new ≡ settings_of places.count self.old }
+        ensures found { (c : Readings) (ms : List (Result Manifest ℕ)) → opened_of result ≡ (first_look self.old.number (state (held_of (E.jobs self.old.executor).list self.old) (S.meaning store.old) c ms)).found }
+        ensures after { (c : Readings) (ms : List (Result Manifest ℕ)) → state (held_of (E.jobs self.new.executor).list self.new) (S.meaning store.new) c ms ≡ (first_look self.old.number (state (held_of (E.jobs self.old.executor).list self.old) (S.meaning store.old) c ms)).state }
+        ensures settings { settings_of E.places.count self.new ≡ settings_of E.places.count self.old }
     {
         if self.loaded {
             return Ok(true);

@@ -33,9 +33,9 @@ impl<E: CompactionExecutor> CompactionWorker<E> {
         id: Ulid,
         attempt: u32,
     ) -> Result<SettleTurn, WorkerFault>
-        ensures answer { (c : Readings) (ms : List (Result Manifest ℕ)) → settle_turn_of result ≡ (release_attempt (settings_of places.count self.old) (id-number id) attempt (state (held_of (jobs self.old.executor).list self.old) (meaning store.old) c ms)).result }
-        ensures after { (c : Readings) (ms : List (Result Manifest ℕ)) → state (held_of (jobs self.new.executor).list self.new) (meaning store.new) c ms ≡ (release_attempt (settings_of places.count self.old) (id-number id) attempt (state (held_of (jobs self.old.executor).list self.old) (meaning store.old) c ms)).state }
-        ensures settings { settings_of places.count self.new ≡ settings_of places.count self.old }
+        ensures answer { (c : Readings) (ms : List (Result Manifest ℕ)) → settle_turn_of result ≡ (release_attempt (settings_of E.places.count self.old) (id-number id) attempt (state (held_of (E.jobs self.old.executor).list self.old) (S.meaning store.old) c ms)).result }
+        ensures after { (c : Readings) (ms : List (Result Manifest ℕ)) → state (held_of (E.jobs self.new.executor).list self.new) (S.meaning store.new) c ms ≡ (release_attempt (settings_of E.places.count self.old) (id-number id) attempt (state (held_of (E.jobs self.old.executor).list self.old) (S.meaning store.old) c ms)).state }
+        ensures settings { settings_of E.places.count self.new ≡ settings_of E.places.count self.old }
     {
         let during = During {
             work: Work::Release,
@@ -55,9 +55,9 @@ impl<E: CompactionExecutor> CompactionWorker<E> {
         store: &mut S,
         id: Ulid,
     ) -> Result<Settled, WorkerFault>
-        ensures answer { (c : Readings) (ms : List (Result Manifest ℕ)) → settled_of result ≡ (releasing (settings_of places.count self.old) (id-number id) (state (held_of (jobs self.old.executor).list self.old) (meaning store.old) c ms)).result }
-        ensures after { (c : Readings) (ms : List (Result Manifest ℕ)) → state (held_of (jobs self.new.executor).list self.new) (meaning store.new) c ms ≡ (releasing (settings_of places.count self.old) (id-number id) (state (held_of (jobs self.old.executor).list self.old) (meaning store.old) c ms)).state }
-        ensures settings { settings_of places.count self.new ≡ settings_of places.count self.old }
+        ensures answer { (c : Readings) (ms : List (Result Manifest ℕ)) → settled_of result ≡ (releasing (settings_of E.places.count self.old) (id-number id) (state (held_of (E.jobs self.old.executor).list self.old) (S.meaning store.old) c ms)).result }
+        ensures after { (c : Readings) (ms : List (Result Manifest ℕ)) → state (held_of (E.jobs self.new.executor).list self.new) (S.meaning store.new) c ms ≡ (releasing (settings_of E.places.count self.old) (id-number id) (state (held_of (E.jobs self.old.executor).list self.old) (S.meaning store.old) c ms)).state }
+        ensures settings { settings_of E.places.count self.new ≡ settings_of E.places.count self.old }
     {
         let mut attempt = 1;
         'attempts: loop {

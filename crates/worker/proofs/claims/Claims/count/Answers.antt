@@ -1,4 +1,4 @@
-use Rattle.std.proofs.Common.{◌≡◌, length, drop, sym, ap, ◌∙◌, length-drop, rules}
+use Rattle.std.proofs.Common.{length-drop, rules}
 use Rattle.std.proofs.lemmas.List.{length-map}
 use Rattle.worker.proofs.claims.Claims.count.Goals as goal
 

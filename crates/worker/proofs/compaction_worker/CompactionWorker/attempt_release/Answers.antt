@@ -1,9 +1,9 @@
-use Rattle.std.proofs.Common.{◌≡◌, ℕ, true, List, [], Some, Result, sym, refl, ap, ◌∙◌}
+use Rattle.std.proofs.Common.{◌≡◌, ℕ, List, [], Some, Result, sym, ap, ◌∙◌}
 use Rattle.table.specs.Ids.{number}
 use Rattle.table.specs.Tables.{holds, lookup, put}
 use Rattle.compactions.specs.Meanings.{entry_of}
 use Rattle.stores.specs.Records.{entry_id, with_entries}
-use Rattle.stores.specs.Stores.{read, got, update}
+use Rattle.stores.specs.Stores.{update}
 use Rattle.stores.specs.Meanings.{draft_of}
 use Rattle.compactions.specs.Trees.{Manifest}
 use Rattle.executors.specs.Clocks.{Readings}
@@ -11,7 +11,7 @@ use Rattle.worker_steps.specs.Faults.{fault, release, store_failed}
 use Rattle.worker_steps.specs.States.{state}
 use Rattle.worker_steps.specs.declared.fault.Work.TheVariants as works
 use Rattle.worker_steps.specs.Effects.{on_update}
-use Rattle.worker_steps.specs.Releases.{written, stuck, released_as}
+use Rattle.worker_steps.specs.Releases.{written, stuck}
 use Rattle.worker.specs.Settling.{if_own}
 use Rattle.worker.specs.Workers.{held_of, settings_of}
 use Rattle.worker.proofs.Attempts.{was_record}
@@ -21,13 +21,13 @@ use Rattle.worker.proofs.compaction_worker.CompactionWorker.attempt_release.Goal
 use Rattle.worker.proofs.compaction_worker.CompactionWorker.attempt_release.Goals.{In-Some}
 
 -- the entry is the worker's own
-own : (g : given.Over) (c : In-Some g) → Some (entry_of c.in-Some.existing) ≡ if_own c.args.self.now.number (lookup entry_id (number c.args.id) (draft_of c.in-ok-draft.draft).entries)
-own g c = c.in-Some.ensures ∙ ap (λ n. if_own n (lookup entry_id (number c.args.id) (draft_of c.in-ok-draft.draft).entries)) (ap (λ s. s.number) c.read-for.ensures.settings)
+own : (g : given.Over) (c : In-Some g) → Some (entry_of c.in-Some.existing) ≡ if_own c.args.self.now.number (lookup entry_id (number c.args.id) (draft_of c.in_ok-draft.draft).entries)
+own g c = c.in-Some.ensures ∙ ap (λ n. if_own n (lookup entry_id (number c.args.id) (draft_of c.in_ok-draft.draft).entries)) (ap (λ s. s.number) c.read_for.ensures.settings)
 
-pub hand-in-requires : goal.hand-in-requires
-hand-in-requires g c =
-    let o = own g (goal.at.hand-in-requires g c).In-Some in
-    let es = (draft_of c.in-ok-draft.draft).entries in
+pub hand_in-requires : goal.hand_in-requires
+hand_in-requires g c =
+    let o = own g (goal.at.hand_in-requires g c).In-Some in
+    let es = (draft_of c.in_ok-draft.draft).entries in
     ap (λ e. holds entry_id e.id es) c.released.ensures
     ∙ ap (λ i. holds entry_id i es) (own_id _ _ es _ o)
     ∙ own_held _ _ es _ o
@@ -35,12 +35,12 @@ hand-in-requires g c =
 pub returns : goal.returns
 returns g c =
     let o = own g (goal.at.returns g c).In-Some in
-    let r = draft_of c.in-ok-draft.draft in
-    let st₁ = g.S.CompactionsStore.meaning c.read-for.new.store in
-    let e = λ (k : Readings) (ms : List (Result Manifest ℕ)). release_found (settings_of g.E.CompactionExecutor.places.count c.args.self.now) (number c.args.id) [] c.args.attempt (held_of (g.E.CompactionExecutor.jobs c.args.self.now.executor).list c.args.self.now) (g.S.CompactionsStore.meaning c.args.store.now) k ms _ st₁ c.read-for.ensures.held c.read-for.ensures.store r (was_record (record { work = works.Release; id = Some c.args.id; attempt = c.args.attempt }) _ _ c.in-ok-draft.ensures.answer) _ o in
+    let r = draft_of c.in_ok-draft.draft in
+    let st₁ = g.S.CompactionsStore.meaning c.read_for.new.store in
+    let e = λ (k : Readings) (ms : List (Result Manifest ℕ)). release_found (settings_of g.E.CompactionExecutor.places.count c.args.self.now) (number c.args.id) [] c.args.attempt (held_of (g.E.CompactionExecutor.jobs c.args.self.now.executor).list c.args.self.now) (g.S.CompactionsStore.meaning c.args.store.now) k ms _ st₁ c.read_for.ensures.held c.read_for.ensures.store r (was_record (record { work = works.Release; id = Some c.args.id; attempt = c.args.attempt }) _ _ c.in_ok-draft.ensures.answer) _ o in
     let put_in = ap (λ x. update (with_entries r (put entry_id x r.entries)) st₁) c.released.ensures in
     record {
-      answer = λ k ms. c.hand-in.ensures.answer ∙ ap (λ u. on_update u.answer written (λ f. stuck (fault (store_failed f) release (Some (number c.args.id)) c.args.attempt))) put_in ∙ sym (ap (λ x. x.result) (e k ms));
-      after = λ k ms. ap (λ u. state (held_of (g.E.CompactionExecutor.jobs c.read-for.new.self.executor).list c.read-for.new.self) u k ms) (c.hand-in.ensures.after ∙ ap (λ u. u.after) put_in) ∙ sym (ap (λ x. x.state) (e k ms));
-      settings = c.read-for.ensures.settings;
+      answer = λ k ms. c.hand_in.ensures.answer ∙ ap (λ u. on_update u.answer written (λ f. stuck (fault (store_failed f) release (Some (number c.args.id)) c.args.attempt))) put_in ∙ sym (ap (λ x. x.result) (e k ms));
+      after = λ k ms. ap (λ u. state (held_of (g.E.CompactionExecutor.jobs c.read_for.new.self.executor).list c.read_for.new.self) u k ms) (c.hand_in.ensures.after ∙ ap (λ u. u.after) put_in) ∙ sym (ap (λ x. x.state) (e k ms));
+      settings = c.read_for.ensures.settings;
     }

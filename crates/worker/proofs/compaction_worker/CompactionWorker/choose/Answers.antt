@@ -1,11 +1,9 @@
-use Rattle.std.proofs.Common.{◌≡◌, ℕ, suc, ◌+◌, ◌<◌, ◌≤◌, List, [], ◌∷◌, map, length, drop, sym, refl, ap, ◌∙◌, arith}
+use Rattle.std.proofs.Common.{◌≡◌, ◌+◌, [], ◌∷◌, map, length, drop, refl, ap, ◌∙◌, arith}
 use Rattle.std.proofs.lemmas.List.{length-map, drop_all}
 use Rattle.compactions.specs.Meanings.{entry_of}
-use Rattle.compactions.specs.Entries.{Entry}
 use Rattle.stores.specs.Meanings.{draft_of}
-use Rattle.worker_steps.specs.Claims.{walked}
 use Rattle.worker.specs.Claims.{chosen_of}
-use Rattle.worker.specs.Workers.{held_of, settings_of}
+use Rattle.worker.specs.Workers.{held_of}
 use Rattle.worker.proofs.Coming.{coming}
 use Rattle.worker.proofs.Walks.{Walking, walking_none, walking_more, walked_chosen, walked_stopped, walked_held}
 use Rattle.worker.proofs.compaction_worker.CompactionWorker.choose.Given as given

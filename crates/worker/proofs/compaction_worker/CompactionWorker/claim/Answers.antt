@@ -1,19 +1,19 @@
-use Rattle.std.proofs.Common.{◌≡◌, ℕ, ◌+◌, ◌-◌, ◌<◌, ◌≤◌, List, length, None, Ok, Result, sym, refl, ap, ◌∙◌, subst, arith}
+use Rattle.std.proofs.Common.{◌≡◌, ℕ, ◌-◌, ◌≤◌, List, length, None, Ok, Result, sym, refl, ap, ◌∙◌, subst, arith}
 use Rattle.std.proofs.lemmas.Result.{err_from_is_err_and}
 use Rattle.compactions.specs.Trees.{Manifest}
 use Rattle.executors.specs.Clocks.{readings_of}
-use Rattle.worker_steps.specs.Faults.{fault, not_landed, claim, fault_of}
+use Rattle.worker_steps.specs.Faults.{fault, not_landed, claim}
 use Rattle.worker_steps.specs.States.{State, state}
 use Rattle.worker_steps.specs.Effects.{Effect}
 use Rattle.worker_steps.specs.Claims.{Claimed, claiming}
 use Rattle.worker.specs.Claims.{waiting}
 use Rattle.worker.specs.Polls.{Counts, counts_of, ClaimEnd, none, landed, faulted, conflict, turn_of, claim_end, counted_claim, PendingTurn}
 use Rattle.worker.specs.Workers.{held_of, settings_of}
-use Rattle.worker.proofs.Claiming.{Claiming, claiming_none, Ended, ended, gave_up, one_more, not_none, not_landed_end, not_faulted}
+use Rattle.worker.proofs.Claiming.{claiming_none, Ended, ended, gave_up, one_more, not_none, not_landed_end, not_faulted}
 use Rattle.worker.proofs.Owned.{tracked_jobs, small_jobs}
 use Rattle.worker.proofs.compaction_worker.CompactionWorker.claim.Given as given
 use Rattle.worker.proofs.compaction_worker.CompactionWorker.claim.Goals as goal
-use Rattle.worker.proofs.compaction_worker.CompactionWorker.claim.Goals.{After-capacity-capacity, After-attempt-claim}
+use Rattle.worker.proofs.compaction_worker.CompactionWorker.claim.Goals.{After-capacity-capacity, After-attempt_claim}
 
 pub attempts-init : goal.attempts-init
 attempts-init g c =
@@ -23,8 +23,8 @@ attempts-init g c =
       omega (arith, c.capacity-capacity.ensures, (tracked_jobs o).room),
     )
 
-pub attempt-claim-requires : goal.attempt-claim-requires
-attempt-claim-requires g c =
+pub attempt_claim-requires : goal.attempt_claim-requires
+attempt_claim-requires g c =
     let i = c.attempts.invariant.0 in
     record {
       small = omega (arith, c.capacity-capacity.ensures, small_jobs c.args.self.now.owned);
@@ -45,18 +45,18 @@ module _ (g : given.Over) (c : After-capacity-capacity g) (e : ClaimEnd) (n : Co
     after = λ ms. z.after ms ∙ ap (λ k. (whole k ms).state) c.capacity-capacity.ensures;
   }
 
-pub returns-in-err-attempt-claim : goal.returns-in-err-attempt-claim
-returns-in-err-attempt-claim g c =
-    let b = (goal.at.returns-in-err-attempt-claim g c).After-capacity-capacity in
-    let said = c.in-err-attempt-claim.ensures in
-    let p = err_from_is_err_and c.from-residual.result c.from-residual.ensures.1 in
+pub returns-in_err-attempt_claim : goal.returns-in_err-attempt_claim
+returns-in_err-attempt_claim g c =
+    let b = (goal.at.returns-in_err-attempt_claim g c).After-capacity-capacity in
+    let said = c.in_err-attempt_claim.ensures in
+    let p = err_from_is_err_and c.from_residual.result c.from_residual.ensures.1 in
     let z = at_capacity g b _ _ _ (ended c.attempts.invariant.0 _ c.attempts.invariant.1 _ _ _ said.answer said.counts said.after (not_faulted _)) in
     rw (p.1, p.2) (record { answer = z.answer; counts = z.counts; after = z.after; settings = said.settings ∙ c.attempts.invariant.1; pending = tt })
 
 pub returns-in-NoneChosen : goal.returns-in-NoneChosen
 returns-in-NoneChosen g c =
     let b = (goal.at.returns-in-NoneChosen g c).After-capacity-capacity in
-    let said = c.in-ok-attempt-claim.ensures in
+    let said = c.in_ok-attempt_claim.ensures in
     let is = ap (λ t. turn_of c.attempts.attempt (Ok t)) c.in-NoneChosen.is in
     let z = at_capacity g b none _ _ (ended c.attempts.invariant.0 _ c.attempts.invariant.1 none _ _ (λ ms. sym is ∙ said.answer ms) said.counts said.after not_none) in
     record { answer = z.answer; counts = z.counts; after = z.after; settings = said.settings ∙ c.attempts.invariant.1; pending = tt }
@@ -64,9 +64,9 @@ returns-in-NoneChosen g c =
 pub returns-then-attempt-self : goal.returns-then-attempt-self
 returns-then-attempt-self g c =
     let b = (goal.at.returns-then-attempt-self g c).After-capacity-capacity in
-    let said = c.in-ok-attempt-claim.ensures in
+    let said = c.in_ok-attempt_claim.ensures in
     let is = ap (λ t. turn_of c.attempts.attempt (Ok t)) c.in-Conflict.is in
-    let limits : c.attempt-claim.new.self.limit ≡ c.args.self.now.limit = ap (λ s. s.limit) (said.settings ∙ c.attempts.invariant.1) in
+    let limits : c.attempt_claim.new.self.limit ≡ c.args.self.now.limit = ap (λ s. s.limit) (said.settings ∙ c.attempts.invariant.1) in
     let last : c.args.self.now.limit ≤ c.attempts.attempt = omega (arith, c.if-attempt-self.true, limits) in
     let at : c.attempts.attempt ≡ c.args.self.now.limit = omega (arith, last, c.attempts.invariant.0.within) in
     let z = at_capacity g b (faulted (fault not_landed claim None c.args.self.now.limit)) _ _ (gave_up c.attempts.invariant.0 _ c.attempts.invariant.1 conflict _ _ (λ ms. sym is ∙ said.answer ms) said.counts said.after refl last) in
@@ -74,13 +74,13 @@ returns-then-attempt-self g c =
 
 pub attempts-smaller : goal.attempts-smaller
 attempts-smaller g c =
-    let said = c.in-ok-attempt-claim.ensures in
+    let said = c.in_ok-attempt_claim.ensures in
     let limits = ap (λ s. s.limit) said.settings in
     omega (arith, limits, c.if-attempt-self.false)
 
 pub attempts-preserved : goal.attempts-preserved
 attempts-preserved g c =
-    let said = c.in-ok-attempt-claim.ensures in
+    let said = c.in_ok-attempt_claim.ensures in
     let is = ap (λ t. turn_of c.attempts.attempt (Ok t)) c.in-Conflict.is in
     let limits = ap (λ s. s.limit) (said.settings ∙ c.attempts.invariant.1) in (
       one_more c.attempts.invariant.0 _ c.attempts.invariant.1 conflict _ _ (λ ms. sym is ∙ said.answer ms) said.counts said.after refl _ _ _ (λ ms. refl) (omega (arith, limits, c.if-attempt-self.false)) said.few,
@@ -91,7 +91,7 @@ attempts-preserved g c =
 pub returns : goal.returns
 returns g c =
     let b = (goal.at.returns g c).After-capacity-capacity in
-    let said = c.in-ok-attempt-claim.ensures in
+    let said = c.in_ok-attempt_claim.ensures in
     let cs = waiting c.in-Landed.claims in
     let is = ap (λ t. turn_of c.attempts.attempt (Ok t)) c.in-Landed.is in
     let z = at_capacity g b (landed c.attempts.attempt cs) _ _ (ended c.attempts.invariant.0 _ c.attempts.invariant.1 (landed c.attempts.attempt cs) _ _ (λ ms. sym is ∙ said.answer ms) said.counts said.after (not_landed_end _ cs)) in
@@ -100,5 +100,5 @@ returns g c =
       counts = z.counts;
       after = z.after;
       settings = said.settings ∙ c.attempts.invariant.1;
-      pending = subst (λ t. PendingTurn c.attempt-claim.new.self.owned.maximum (held_of (g.E.CompactionExecutor.jobs c.attempt-claim.new.self.executor).list c.attempt-claim.new.self) (Ok t)) c.in-Landed.is said.pending;
+      pending = subst (λ t. PendingTurn c.attempt_claim.new.self.owned.maximum (held_of (g.E.CompactionExecutor.jobs c.attempt_claim.new.self.executor).list c.attempt_claim.new.self) (Ok t)) c.in-Landed.is said.pending;
     }

@@ -1,17 +1,15 @@
-use Rattle.std.proofs.Common.{◌≡◌, ℕ, ◌+◌, List, [], ◌∷◌, map, length, Result, sym, refl, ap, ◌∙◌, subst, arith}
+use Rattle.std.proofs.Common.{◌≡◌, ◌+◌, ◌∷◌, map, refl, ap, ◌∙◌}
 use Rattle.table.specs.Tables.{put}
-use Rattle.compactions.specs.Meanings.{entry_of, manifest_of}
-use Rattle.compactions.specs.Trees.{Manifest}
-use Rattle.executors.specs.Clocks.{Readings}
+use Rattle.compactions.specs.Meanings.{entry_of}
 use Rattle.stores.specs.Records.{entry_id}
-use Rattle.worker_steps.specs.States.{self_id, Held, with_left, state}
+use Rattle.worker_steps.specs.States.{self_id, with_left, state}
 use Rattle.worker_steps.specs.Tracking.{Tracked}
 use Rattle.worker_steps.specs.Claims.{joined}
-use Rattle.worker_steps.proofs.Tracking.{only_first, list_id}
+use Rattle.worker_steps.proofs.Tracking.{only_first}
 use Rattle.worker.specs.Claims.{waiting}
 use Rattle.worker.specs.Owned.{owned_of}
 use Rattle.worker.specs.Polls.{counts_of}
-use Rattle.worker.specs.Workers.{held_of, settings_of}
+use Rattle.worker.specs.Workers.{held_of}
 use Rattle.worker.proofs.Coming.{taken_first}
 use Rattle.worker.proofs.Leaving.{left_tracked}
 use Rattle.worker.proofs.Dispatching.{dispatching_none, dispatching_more, stuck_pending, dispatched_stuck, dispatched_stuck_after}
@@ -31,7 +29,7 @@ pub loop-claim-preserved : goal.loop-claim-preserved
 loop-claim-preserved g c =
     let b = (goal.at.loop-claim-preserved g c).After-settle in
     let max : c.settle.new.self.owned.maximum ≡ c.loop-claim.self.owned.maximum = ap (λ s. s.maximum) c.settle.ensures.settings in (
-      rw max (dispatching_more (entry_of c.in-Some.claim.entry) _ _ _ _ _ c.loop-claim.invariant.0 (first g b) c.loop-claim.invariant.1 c.in-default-settle.ensures.step),
+      rw max (dispatching_more (entry_of c.in-Some.claim.entry) _ _ _ _ _ c.loop-claim.invariant.0 (first g b) c.loop-claim.invariant.1 c.in_default-settle.ensures.step),
       c.settle.ensures.settings ∙ c.loop-claim.invariant.1,
     )
 
@@ -48,9 +46,9 @@ leave-requires g c =
     let i = c.spend.ensures ∙ ap (λ e. e.id) c.in-Err.ensures.step.back in
     rw i (only_first (pending_at g b))
 
-pub leave-all-requires : goal.leave-all-requires
-leave-all-requires g c =
-    let b = (goal.at.leave-all-requires g c).In-Err in
+pub leave_all-requires : goal.leave_all-requires
+leave_all-requires g c =
+    let b = (goal.at.leave_all-requires g c).In-Err in
     let i = c.spend.ensures ∙ ap (λ e. e.id) c.in-Err.ensures.step.back in
     left_tracked (owned_of c.settle.new.self.owned) (owned_of c.leave.new.self) (entry_of c.in-Some.claim.entry) _ _ _ refl i c.leave.ensures (pending_at g b)
 
@@ -67,11 +65,11 @@ returns-in-Err g c =
     let i = c.spend.ensures ∙ ap (λ x. x.id) one.back in
     let left = ap (λ o. o.left) c.leave.ensures ∙ ap (λ j. put self_id j h.left) i in
     let table = ap (λ o. o.table) c.leave.ensures in
-    let held = c.leave-all.ensures.held ∙ ap (λ t. record { loaded = w.loaded; table = t; left = joined es (owned_of c.leave.new.self).left; jobs = h.jobs }) table ∙ ap (λ l. with_left h (joined es l)) left in
+    let held = c.leave_all.ensures.held ∙ ap (λ t. record { loaded = w.loaded; table = t; left = joined es (owned_of c.leave.new.self).left; jobs = h.jobs }) table ∙ ap (λ l. with_left h (joined es l)) left in
     let frame = c.loop-claim.invariant.0.frame in
     record {
       answer = dispatched_stuck e es _ _ _ _ _ c.loop-claim.invariant.0 (first g a) c.loop-claim.invariant.1 one _ (ap (λ n. n + 1) c.count.ensures);
       after = λ k ms. ap (λ x. state x st k ms) held ∙ dispatched_stuck_after e es _ _ _ _ _ c.loop-claim.invariant.0 (first g a) c.loop-claim.invariant.1 one k ms;
       claimed = (ap (λ x. x.claimed) (one.counts ∙ frame), ap (λ x. x.stopped) (one.counts ∙ frame));
-      settings = c.leave-all.ensures.settings ∙ ap (λ n. record { number = w.number; maximum = n; limit = w.limit; places = g.E.CompactionExecutor.places.count }) (ap (λ o. o.maximum) c.leave.ensures) ∙ c.settle.ensures.settings ∙ c.loop-claim.invariant.1;
+      settings = c.leave_all.ensures.settings ∙ ap (λ n. record { number = w.number; maximum = n; limit = w.limit; places = g.E.CompactionExecutor.places.count }) (ap (λ o. o.maximum) c.leave.ensures) ∙ c.settle.ensures.settings ∙ c.loop-claim.invariant.1;
     }

@@ -1,6 +1,5 @@
-use Rattle.std.proofs.Common.{◌≡◌, sym, ap, ◌∙◌}
+use Rattle.std.proofs.Common.{ap, ◌∙◌}
 use Rattle.compactions.specs.Meanings.{entry_of}
-use Rattle.worker_steps.specs.States.{Settings}
 use Rattle.worker.specs.Claims.{waiting}
 use Rattle.worker.specs.Owned.{owned_of}
 use Rattle.worker.proofs.Coming.{taken_first}

@@ -1,12 +1,11 @@
-use Rattle.std.proofs.Common.{◌≡◌, ℕ, true, List, Some, Ok, Result, sym, refl, ap, ◌∙◌}
+use Rattle.std.proofs.Common.{◌≡◌, ℕ, List, Some, Ok, Result, sym, ap, ◌∙◌}
 use Rattle.compactions.specs.Trees.{Manifest}
 use Rattle.executors.specs.Clocks.{readings_of}
-use Rattle.executors.specs.Executors.{names_running, left_by}
+use Rattle.executors.specs.Executors.{names_running}
 use Rattle.executors.specs.Notices.{notice_of}
-use Rattle.worker_steps.specs.States.{Held, with_jobs, state}
-use Rattle.worker_steps.specs.Looks.{opened, first_look}
+use Rattle.worker_steps.specs.States.{with_jobs, state}
+use Rattle.worker_steps.specs.Looks.{first_look}
 use Rattle.worker_steps.specs.Notices.{handled, notice_opened, noticing}
-use Rattle.worker.specs.Notices.{noticed_of}
 use Rattle.worker.specs.Workers.{held_of, settings_of, opened_of}
 use Rattle.worker.proofs.compaction_worker.CompactionWorker.notice.Goals as goal
 use Rattle.worker_steps.proofs.Looking.{look_jobs}
@@ -15,12 +14,12 @@ pub returns : goal.returns
 returns g c =
     let w = c.args.self.now in
     let s = settings_of g.E.CompactionExecutor.places.count w in
-    let s₁ = settings_of g.E.CompactionExecutor.places.count c.ensure-loaded.new.self in
+    let s₁ = settings_of g.E.CompactionExecutor.places.count c.ensure_loaded.new.self in
     let n = notice_of c.in-Some.message in
     let h = held_of (g.E.CompactionExecutor.jobs w.executor).list w in
-    let h₁ = held_of (g.E.CompactionExecutor.jobs c.ensure-loaded.new.self.executor).list c.ensure-loaded.new.self in
+    let h₁ = held_of (g.E.CompactionExecutor.jobs c.ensure_loaded.new.self.executor).list c.ensure_loaded.new.self in
     let st = g.S.CompactionsStore.meaning c.args.store.now in
-    let st₁ = g.S.CompactionsStore.meaning c.ensure-loaded.new.store in
+    let st₁ = g.S.CompactionsStore.meaning c.ensure_loaded.new.store in
     let ck = readings_of c.args.clock.now in
     let took = c.in-Some.ensures in
     let found = λ (ms : List (Result Manifest ℕ)). sym (ap (λ b. opened_of (Ok b)) c.if-not-loaded.false) ∙ c.in-Ok.ensures.found ck ms in

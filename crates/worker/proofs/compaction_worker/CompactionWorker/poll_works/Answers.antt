@@ -1,19 +1,17 @@
-use Rattle.std.proofs.Common.{◌≡◌, ℕ, ◌-◌, true, List, length, Some, None, Ok, Err, Result, sym, refl, ap, ◌∙◌, subst}
+use Rattle.std.proofs.Common.{◌≡◌, ◌-◌, length, Some, None, Ok, sym, ap, ◌∙◌, subst}
 use Rattle.std.proofs.lemmas.Result.{err_from_is_err_and}
-use Rattle.compactions.specs.Trees.{Manifest}
 use Rattle.executors.specs.Clocks.{readings_of}
 use Rattle.executors.specs.Manifests.{answers_of}
-use Rattle.worker_steps.specs.Faults.{fault_of}
 use Rattle.worker_steps.specs.States.{Held, State, state}
 use Rattle.worker_steps.specs.Claims.{claiming}
 use Rattle.worker_steps.specs.Looks.{opened, first_look}
 use Rattle.worker.specs.Claims.{waiting}
-use Rattle.worker.specs.Polls.{counts_of, claim_of, claim_end, landed, counted_claim, PendingClaim}
+use Rattle.worker.specs.Polls.{counts_of, claim_of, claim_end, landed, PendingClaim}
 use Rattle.worker.specs.Workers.{held_of, settings_of, opened_of}
 use Rattle.worker.proofs.Polling.{poll_after, poll_result, landed_counts}
 use Rattle.worker.proofs.compaction_worker.CompactionWorker.poll_works.Given as given
 use Rattle.worker.proofs.compaction_worker.CompactionWorker.poll_works.Goals as goal
-use Rattle.worker.proofs.compaction_worker.CompactionWorker.poll_works.Goals.{In-Some, After-after-claim}
+use Rattle.worker.proofs.compaction_worker.CompactionWorker.poll_works.Goals.{In-Some, After-after_claim}
 
 module _ (g : given.Over) (c : In-Some g) where
   -- the state at the beginning
@@ -22,47 +20,47 @@ module _ (g : given.Over) (c : In-Some g) where
 
   -- what the worker held after the first look, and after the claim
   abbrev held₁ : Held
-  held₁ = held_of (g.E.CompactionExecutor.jobs c.ensure-loaded.new.self.executor).list c.ensure-loaded.new.self
+  held₁ = held_of (g.E.CompactionExecutor.jobs c.ensure_loaded.new.self.executor).list c.ensure_loaded.new.self
 
   abbrev held₂ : Held
   held₂ = held_of (g.E.CompactionExecutor.jobs c.claim.new.self.executor).list c.claim.new.self
 
   -- the claim landed
-  landed_at : landed c.in-Some.landed.attempt (waiting c.in-Some.landed.claims) ≡ claim_end (claiming (settings_of g.E.CompactionExecutor.places.count c.ensure-loaded.new.self) (c.ensure-loaded.new.self.owned.maximum - length (held_of (g.E.CompactionExecutor.jobs c.ensure-loaded.new.self.executor).list c.ensure-loaded.new.self).table) (state (held_of (g.E.CompactionExecutor.jobs c.ensure-loaded.new.self.executor).list c.ensure-loaded.new.self) (g.S.CompactionsStore.meaning c.ensure-loaded.new.store) (readings_of c.args.clock.now) (answers_of c.args.manifests.now))).result
-  landed_at = sym (ap (λ x. claim_of (Ok x)) c.in-Some.is) ∙ c.in-ok-landed.ensures.answer (answers_of c.args.manifests.now)
+  landed_at : landed c.in-Some.landed.attempt (waiting c.in-Some.landed.claims) ≡ claim_end (claiming (settings_of g.E.CompactionExecutor.places.count c.ensure_loaded.new.self) (c.ensure_loaded.new.self.owned.maximum - length (held_of (g.E.CompactionExecutor.jobs c.ensure_loaded.new.self.executor).list c.ensure_loaded.new.self).table) (state (held_of (g.E.CompactionExecutor.jobs c.ensure_loaded.new.self.executor).list c.ensure_loaded.new.self) (g.S.CompactionsStore.meaning c.ensure_loaded.new.store) (readings_of c.args.clock.now) (answers_of c.args.manifests.now))).result
+  landed_at = sym (ap (λ x. claim_of (Ok x)) c.in-Some.is) ∙ c.in_ok-landed.ensures.answer (answers_of c.args.manifests.now)
 
   -- the record was there
   found : opened ≡ (first_look c.args.self.now.number (state (held_of (g.E.CompactionExecutor.jobs c.args.self.now.executor).list c.args.self.now) (g.S.CompactionsStore.meaning c.args.store.now) (readings_of c.args.clock.now) (answers_of c.args.manifests.now))).found
-  found = sym (ap (λ b. opened_of (Ok b)) c.if-not-branch.false) ∙ c.in-ok-ensure-loaded.ensures.found (readings_of c.args.clock.now) (answers_of c.args.manifests.now)
+  found = sym (ap (λ b. opened_of (Ok b)) c.if-not-branch.false) ∙ c.in_ok-ensure_loaded.ensures.found (readings_of c.args.clock.now) (answers_of c.args.manifests.now)
 
-pub after-claim-requires : goal.after-claim-requires
-after-claim-requires g c =
-    let b = (goal.at.after-claim-requires g c).In-Some in
+pub after_claim-requires : goal.after_claim-requires
+after_claim-requires g c =
+    let b = (goal.at.after_claim-requires g c).In-Some in
     let fresh = landed_counts (counts_of c.args.counts.now) (counts_of c.claim.new.counts) _ _ _ _ (c.claim.ensures.counts (answers_of c.args.manifests.now)) (landed_at g b) (ap (λ x. x.started) c.requires) (ap (λ x. x.let_go) c.requires) in
     record {
-      pending = subst (λ x. PendingClaim c.claim.new.self.owned.maximum (held_of (g.E.CompactionExecutor.jobs c.claim.new.self.executor).list c.claim.new.self) (Ok x)) c.in-Some.is c.in-ok-landed.ensures.pending;
+      pending = subst (λ x. PendingClaim c.claim.new.self.owned.maximum (held_of (g.E.CompactionExecutor.jobs c.claim.new.self.executor).list c.claim.new.self) (Ok x)) c.in-Some.is c.in_ok-landed.ensures.pending;
       fresh = (fresh.0, (fresh.1, fresh.2));
     }
 
-pub returns-in-err-after-claim : goal.returns-in-err-after-claim
-returns-in-err-after-claim g c =
-    let b = (goal.at.returns-in-err-after-claim g c).In-Some in
+pub returns-in_err-after_claim : goal.returns-in_err-after_claim
+returns-in_err-after_claim g c =
+    let b = (goal.at.returns-in_err-after_claim g c).In-Some in
     let ms = answers_of c.args.manifests.now in
-    let q = err_from_is_err_and c.from-residual-in-err-after-claim.result c.from-residual-in-err-after-claim.ensures.1 in
-    let said = c.in-err-after-claim.ensures in
+    let q = err_from_is_err_and c.from_residual-in_err-after_claim.result c.from_residual-in_err-after_claim.ensures.1 in
+    let said = c.in_err-after_claim.ensures in
     rw (q.1, q.2) (record {
-      answer = poll_result (settings_of g.E.CompactionExecutor.places.count c.args.self.now) (settings_of g.E.CompactionExecutor.places.count c.ensure-loaded.new.self) (settings_of g.E.CompactionExecutor.places.count c.claim.new.self) (at_first g b) (held₁ g b) (held₂ g b) (g.S.CompactionsStore.meaning c.ensure-loaded.new.store) (g.S.CompactionsStore.meaning c.claim.new.store) (readings_of c.args.clock.now) (readings_of c.claim.new.clock) ms c.ensure-loaded.ensures.settings c.claim.ensures.settings (found g b) (c.ensure-loaded.ensures.after _ ms) _ _ (landed_at g b) (c.claim.ensures.after ms) (counts_of c.args.counts.now) (counts_of c.claim.new.counts) (counts_of c.after-claim.new.counts) (Some _) (c.claim.ensures.counts ms) said.claimed.0 said.claimed.1 (said.answer _);
-      after = poll_after (settings_of g.E.CompactionExecutor.places.count c.args.self.now) (settings_of g.E.CompactionExecutor.places.count c.ensure-loaded.new.self) (settings_of g.E.CompactionExecutor.places.count c.claim.new.self) (at_first g b) (held₁ g b) (held₂ g b) (g.S.CompactionsStore.meaning c.ensure-loaded.new.store) (g.S.CompactionsStore.meaning c.claim.new.store) (readings_of c.args.clock.now) (readings_of c.claim.new.clock) ms c.ensure-loaded.ensures.settings c.claim.ensures.settings (found g b) (c.ensure-loaded.ensures.after _ ms) _ _ (landed_at g b) (c.claim.ensures.after ms) _ (said.after _);
-      settings = said.settings ∙ c.claim.ensures.settings ∙ c.ensure-loaded.ensures.settings;
+      answer = poll_result (settings_of g.E.CompactionExecutor.places.count c.args.self.now) (settings_of g.E.CompactionExecutor.places.count c.ensure_loaded.new.self) (settings_of g.E.CompactionExecutor.places.count c.claim.new.self) (at_first g b) (held₁ g b) (held₂ g b) (g.S.CompactionsStore.meaning c.ensure_loaded.new.store) (g.S.CompactionsStore.meaning c.claim.new.store) (readings_of c.args.clock.now) (readings_of c.claim.new.clock) ms c.ensure_loaded.ensures.settings c.claim.ensures.settings (found g b) (c.ensure_loaded.ensures.after _ ms) _ _ (landed_at g b) (c.claim.ensures.after ms) (counts_of c.args.counts.now) (counts_of c.claim.new.counts) (counts_of c.after_claim.new.counts) (Some _) (c.claim.ensures.counts ms) said.claimed.0 said.claimed.1 (said.answer _);
+      after = poll_after (settings_of g.E.CompactionExecutor.places.count c.args.self.now) (settings_of g.E.CompactionExecutor.places.count c.ensure_loaded.new.self) (settings_of g.E.CompactionExecutor.places.count c.claim.new.self) (at_first g b) (held₁ g b) (held₂ g b) (g.S.CompactionsStore.meaning c.ensure_loaded.new.store) (g.S.CompactionsStore.meaning c.claim.new.store) (readings_of c.args.clock.now) (readings_of c.claim.new.clock) ms c.ensure_loaded.ensures.settings c.claim.ensures.settings (found g b) (c.ensure_loaded.ensures.after _ ms) _ _ (landed_at g b) (c.claim.ensures.after ms) _ (said.after _);
+      settings = said.settings ∙ c.claim.ensures.settings ∙ c.ensure_loaded.ensures.settings;
     })
 
 pub returns : goal.returns
 returns g c =
     let b = (goal.at.returns g c).In-Some in
     let ms = answers_of c.args.manifests.now in
-    let said = c.in-ok-after-claim.ensures in
+    let said = c.in_ok-after_claim.ensures in
     record {
-      answer = poll_result (settings_of g.E.CompactionExecutor.places.count c.args.self.now) (settings_of g.E.CompactionExecutor.places.count c.ensure-loaded.new.self) (settings_of g.E.CompactionExecutor.places.count c.claim.new.self) (at_first g b) (held₁ g b) (held₂ g b) (g.S.CompactionsStore.meaning c.ensure-loaded.new.store) (g.S.CompactionsStore.meaning c.claim.new.store) (readings_of c.args.clock.now) (readings_of c.claim.new.clock) ms c.ensure-loaded.ensures.settings c.claim.ensures.settings (found g b) (c.ensure-loaded.ensures.after _ ms) _ _ (landed_at g b) (c.claim.ensures.after ms) (counts_of c.args.counts.now) (counts_of c.claim.new.counts) (counts_of c.after-claim.new.counts) None (c.claim.ensures.counts ms) said.claimed.0 said.claimed.1 (said.answer _);
-      after = poll_after (settings_of g.E.CompactionExecutor.places.count c.args.self.now) (settings_of g.E.CompactionExecutor.places.count c.ensure-loaded.new.self) (settings_of g.E.CompactionExecutor.places.count c.claim.new.self) (at_first g b) (held₁ g b) (held₂ g b) (g.S.CompactionsStore.meaning c.ensure-loaded.new.store) (g.S.CompactionsStore.meaning c.claim.new.store) (readings_of c.args.clock.now) (readings_of c.claim.new.clock) ms c.ensure-loaded.ensures.settings c.claim.ensures.settings (found g b) (c.ensure-loaded.ensures.after _ ms) _ _ (landed_at g b) (c.claim.ensures.after ms) _ (said.after _);
-      settings = said.settings ∙ c.claim.ensures.settings ∙ c.ensure-loaded.ensures.settings;
+      answer = poll_result (settings_of g.E.CompactionExecutor.places.count c.args.self.now) (settings_of g.E.CompactionExecutor.places.count c.ensure_loaded.new.self) (settings_of g.E.CompactionExecutor.places.count c.claim.new.self) (at_first g b) (held₁ g b) (held₂ g b) (g.S.CompactionsStore.meaning c.ensure_loaded.new.store) (g.S.CompactionsStore.meaning c.claim.new.store) (readings_of c.args.clock.now) (readings_of c.claim.new.clock) ms c.ensure_loaded.ensures.settings c.claim.ensures.settings (found g b) (c.ensure_loaded.ensures.after _ ms) _ _ (landed_at g b) (c.claim.ensures.after ms) (counts_of c.args.counts.now) (counts_of c.claim.new.counts) (counts_of c.after_claim.new.counts) None (c.claim.ensures.counts ms) said.claimed.0 said.claimed.1 (said.answer _);
+      after = poll_after (settings_of g.E.CompactionExecutor.places.count c.args.self.now) (settings_of g.E.CompactionExecutor.places.count c.ensure_loaded.new.self) (settings_of g.E.CompactionExecutor.places.count c.claim.new.self) (at_first g b) (held₁ g b) (held₂ g b) (g.S.CompactionsStore.meaning c.ensure_loaded.new.store) (g.S.CompactionsStore.meaning c.claim.new.store) (readings_of c.args.clock.now) (readings_of c.claim.new.clock) ms c.ensure_loaded.ensures.settings c.claim.ensures.settings (found g b) (c.ensure_loaded.ensures.after _ ms) _ _ (landed_at g b) (c.claim.ensures.after ms) _ (said.after _);
+      settings = said.settings ∙ c.claim.ensures.settings ∙ c.ensure_loaded.ensures.settings;
     }

@@ -1,4 +1,4 @@
-use Rattle.std.proofs.Common.{◌≡◌, ℕ, suc, ◌+◌, Bool, true, false, cond, List, [], pos, Some, None, Ok, Err, Option, Result, sym, refl, ap, ◌∙◌, arith}
+use Rattle.std.proofs.Common.{◌≡◌, ℕ, Bool, true, false, cond, List, [], pos, Some, None, Ok, Result, sym, refl, ap, ◌∙◌, arith}
 use Rattle.table.specs.Ids.{number}
 use Rattle.compactions.specs.Entries.{Entry}
 use Rattle.compactions.specs.Meanings.{entry_of, manifest_of}
@@ -6,7 +6,7 @@ use Rattle.compactions.specs.Trees.{Manifest}
 use Rattle.argument_check.specs.Check.{job_args}
 use Rattle.executors.specs.Clocks.{Readings}
 use Rattle.worker_steps.specs.Faults.{Fault, fault_of}
-use Rattle.worker_steps.specs.States.{Held, state}
+use Rattle.worker_steps.specs.States.{state}
 use Rattle.worker_steps.specs.Releases.{releasing, stuck}
 use Rattle.worker_steps.specs.Polls.{may_run, with_started}
 use Rattle.worker.specs.Polls.{counts_of}
@@ -18,7 +18,7 @@ use Rattle.worker.proofs.Dispatching.{started_result, started_after, started_tra
 use Rattle.worker_steps.proofs.Tracking.{settle}
 use Rattle.worker.proofs.compaction_worker.CompactionWorker.settle.Given as given
 use Rattle.worker.proofs.compaction_worker.CompactionWorker.settle.Goals as goal
-use Rattle.worker.proofs.compaction_worker.CompactionWorker.settle.Goals.{After-release-claim}
+use Rattle.worker.proofs.compaction_worker.CompactionWorker.settle.Goals.{After-release_claim}
 
 -- no claim comes back from a start, and one does
 kept_none : (b : Bool) (e : Entry) → None ≡ cond b None (Some e) → b ≡ true
@@ -58,7 +58,7 @@ returns-in-Ok g c =
       settings = c.start.ensures.settings;
     }
 
-module _ (g : given.Over) (c : After-release-claim g) where
+module _ (g : given.Over) (c : After-release_claim g) where
   refused : (may_run g.E.CompactionExecutor.places.count (job_args (entry_of c.args.claim.entry) (manifest_of c.args.manifest.now)) (g.E.CompactionExecutor.jobs c.args.self.now.executor).list ≡ false) × (entry_of c.in-Err.claim.entry ≡ entry_of c.args.claim.entry)
   refused = came_back _ _ _ c.in-Err.ensures.answer
 
@@ -76,42 +76,42 @@ module _ (g : given.Over) (c : After-release-claim g) where
         ∙ ap (λ i. releasing (settings_of g.E.CompactionExecutor.places.count c.args.self.now) i (state (held_of (g.E.CompactionExecutor.jobs c.start.new.self.executor).list c.start.new.self) (g.S.CompactionsStore.meaning c.args.store.now) k ms)) same_id
         ∙ ap (λ h. releasing (settings_of g.E.CompactionExecutor.places.count c.args.self.now) (entry_of c.args.claim.entry).id (state h (g.S.CompactionsStore.meaning c.args.store.now) k ms)) same_held
 
-    answered : settled_of c.release-claim.result ≡ (releasing (settings_of g.E.CompactionExecutor.places.count c.args.self.now) (entry_of c.args.claim.entry).id (state (held_of (g.E.CompactionExecutor.jobs c.args.self.now.executor).list c.args.self.now) (g.S.CompactionsStore.meaning c.args.store.now) k ms)).result
-    answered = c.release-claim.ensures.answer k ms ∙ ap (λ x. x.result) whole
+    answered : settled_of c.release_claim.result ≡ (releasing (settings_of g.E.CompactionExecutor.places.count c.args.self.now) (entry_of c.args.claim.entry).id (state (held_of (g.E.CompactionExecutor.jobs c.args.self.now.executor).list c.args.self.now) (g.S.CompactionsStore.meaning c.args.store.now) k ms)).result
+    answered = c.release_claim.ensures.answer k ms ∙ ap (λ x. x.result) whole
 
-    left_at : state (held_of (g.E.CompactionExecutor.jobs c.release-claim.new.self.executor).list c.release-claim.new.self) (g.S.CompactionsStore.meaning c.release-claim.new.store) k ms ≡ (releasing (settings_of g.E.CompactionExecutor.places.count c.args.self.now) (entry_of c.args.claim.entry).id (state (held_of (g.E.CompactionExecutor.jobs c.args.self.now.executor).list c.args.self.now) (g.S.CompactionsStore.meaning c.args.store.now) k ms)).state
-    left_at = c.release-claim.ensures.after k ms ∙ ap (λ x. x.state) whole
+    left_at : state (held_of (g.E.CompactionExecutor.jobs c.release_claim.new.self.executor).list c.release_claim.new.self) (g.S.CompactionsStore.meaning c.release_claim.new.store) k ms ≡ (releasing (settings_of g.E.CompactionExecutor.places.count c.args.self.now) (entry_of c.args.claim.entry).id (state (held_of (g.E.CompactionExecutor.jobs c.args.self.now.executor).list c.args.self.now) (g.S.CompactionsStore.meaning c.args.store.now) k ms)).state
+    left_at = c.release_claim.ensures.after k ms ∙ ap (λ x. x.state) whole
 
-pub returns-in-Ok-release-claim : goal.returns-in-Ok-release-claim
-returns-in-Ok-release-claim g c =
-    let b = (goal.at.returns-in-Ok-release-claim g c).After-release-claim in
+pub returns-in-Ok-release_claim : goal.returns-in-Ok-release_claim
+returns-in-Ok-release_claim g c =
+    let b = (goal.at.returns-in-Ok-release_claim g c).After-release_claim in
     let s = settings_of g.E.CompactionExecutor.places.count c.args.self.now in
     let m = manifest_of c.args.manifest.now in
     let e = entry_of c.args.claim.entry in
     let h = held_of (g.E.CompactionExecutor.jobs c.args.self.now.executor).list c.args.self.now in
     let st = g.S.CompactionsStore.meaning c.args.store.now in
-    let said = λ (k : Readings) (ms : List (Result Manifest ℕ)). sym (ap settled_of c.in-Ok-release-claim.is) ∙ answered g b k ms in
+    let said = λ (k : Readings) (ms : List (Result Manifest ℕ)). sym (ap settled_of c.in-Ok-release_claim.is) ∙ answered g b k ms in
     record {
       step = record {
-        result = let_go_result s m e h st (refused g b).0 _ _ _ said (left_at g b) (not_stuck c.in-Ok-release-claim.field-0) (counts_of c.args.counts.now);
-        after = let_go_after s m e h st (refused g b).0 _ _ _ said (left_at g b) (not_stuck c.in-Ok-release-claim.field-0);
+        result = let_go_result s m e h st (refused g b).0 _ _ _ said (left_at g b) (not_stuck c.in-Ok-release_claim.field-0) (counts_of c.args.counts.now);
+        after = let_go_after s m e h st (refused g b).0 _ _ _ said (left_at g b) (not_stuck c.in-Ok-release_claim.field-0);
         tracked = λ max P t. released_tracked s m e h st (refused g b).0 _ _ _ said (left_at g b) some_clock [] max P (settle t);
         frame = refl;
         few = omega arith;
       };
-      settings = c.release-claim.ensures.settings ∙ c.start.ensures.settings;
+      settings = c.release_claim.ensures.settings ∙ c.start.ensures.settings;
     }
 
-pub returns-in-Err-release-claim : goal.returns-in-Err-release-claim
-returns-in-Err-release-claim g c =
-    let b = (goal.at.returns-in-Err-release-claim g c).After-release-claim in
+pub returns-in-Err-release_claim : goal.returns-in-Err-release_claim
+returns-in-Err-release_claim g c =
+    let b = (goal.at.returns-in-Err-release_claim g c).After-release_claim in
     let s = settings_of g.E.CompactionExecutor.places.count c.args.self.now in
     let m = manifest_of c.args.manifest.now in
     let e = entry_of c.args.claim.entry in
     let h = held_of (g.E.CompactionExecutor.jobs c.args.self.now.executor).list c.args.self.now in
     let st = g.S.CompactionsStore.meaning c.args.store.now in
-    let f = fault_of c.in-Err-release-claim.fault in
-    let said = λ (k : Readings) (ms : List (Result Manifest ℕ)). sym (ap settled_of c.in-Err-release-claim.is) ∙ answered g b k ms in
+    let f = fault_of c.in-Err-release_claim.fault in
+    let said = λ (k : Readings) (ms : List (Result Manifest ℕ)). sym (ap settled_of c.in-Err-release_claim.is) ∙ answered g b k ms in
     record {
       step = record {
         back = (refused g b).1;
@@ -120,5 +120,5 @@ returns-in-Err-release-claim g c =
         after = stuck_after s m e h st (refused g b).0 _ _ _ said (left_at g b) f refl;
         tracked = released_tracked s m e h st (refused g b).0 _ _ _ said (left_at g b) some_clock [];
       };
-      settings = c.release-claim.ensures.settings ∙ c.start.ensures.settings;
+      settings = c.release_claim.ensures.settings ∙ c.start.ensures.settings;
     }

@@ -1,8 +1,6 @@
-use Rattle.std.proofs.Common.{◌≡◌, ◌<◌, ◌≤◌, true, false, cond, [], ◌∷◌, ◌++◌, map, length, is_ok, sym, refl, ap, ◌∙◌, arith, length-append}
+use Rattle.std.proofs.Common.{◌≡◌, ◌<◌, ◌≤◌, [], ◌∷◌, length, sym, refl, ap, ◌∙◌, arith, length-append}
 use Rattle.std.proofs.lemmas.List.{length-map}
-use Rattle.std.proofs.lemmas.Bool.{lt-ltb}
 use Rattle.compactions.specs.Counted.{items_of}
-use Rattle.compactions.specs.Entries.{Entry}
 use Rattle.compactions.specs.Meanings.{entry_of}
 use Rattle.worker.specs.Claims.{chosen_of}
 use Rattle.worker.specs.Meanings.{table_of}
@@ -10,28 +8,28 @@ use Rattle.worker.proofs.Walks.{walk_chosen, walk_full}
 use Rattle.worker.proofs.Pushes.{pushed}
 use Rattle.worker.proofs.compaction_worker.CompactionWorker.visit.Goals as goal
 
-pub returns-then-as-slice-capacity : goal.returns-then-as-slice-capacity
-returns-then-as-slice-capacity g c =
+pub returns-then-as_slice-capacity : goal.returns-then-as_slice-capacity
+returns-then-as_slice-capacity g c =
     let w = c.args.self.now in
     let cs = c.args.chosen.now.entries in
-    let len : length c.as-slice.result.now ≡ length (chosen_of c.args.chosen.now) = ap length c.as-slice.ensures ∙ sym (length-map (items_of cs) entry_of) in
-    let room : length (chosen_of c.args.chosen.now) < c.args.capacity = omega (arith, c.if-as-slice-capacity.true, len) in
+    let len : length c.as_slice.result.now ≡ length (chosen_of c.args.chosen.now) = ap length c.as_slice.ensures ∙ sym (length-map (items_of cs) entry_of) in
+    let room : length (chosen_of c.args.chosen.now) < c.args.capacity = omega (arith, c.if-as_slice-capacity.true, len) in
     let more = pushed entry_of cs c.push.new.self c.args.entry.now c.push.result (omega (arith, room, c.requires.small)) c.push.ensures.value c.push.ensures.after in
     record {
-      walk = λ es. walk_chosen (entry_of c.args.entry.now) es (table_of w.owned.job_progress) (g.E.CompactionExecutor.jobs w.executor).list (sym c.if-not-is-unclaimed.ensures) (sym c.if-has-row.ensures) (chosen_of c.args.chosen.now) _ c.args.chosen.now.stopped c.args.capacity room more;
+      walk = λ es. walk_chosen (entry_of c.args.entry.now) es (table_of w.owned.job_progress) (g.E.CompactionExecutor.jobs w.executor).list (sym c.if-not-is_unclaimed.ensures) (sym c.if-has_row.ensures) (chosen_of c.args.chosen.now) _ c.args.chosen.now.stopped c.args.capacity room more;
       held = refl;
       settings = refl;
       stopped = omega arith;
       within = omega (arith, room, ap length more ∙ length-append (chosen_of c.args.chosen.now) (entry_of c.args.entry.now ∷ []));
     }
 
-pub returns-else-as-slice-capacity : goal.returns-else-as-slice-capacity
-returns-else-as-slice-capacity g c =
+pub returns-else-as_slice-capacity : goal.returns-else-as_slice-capacity
+returns-else-as_slice-capacity g c =
     let w = c.args.self.now in
-    let len : length c.as-slice.result.now ≡ length (chosen_of c.args.chosen.now) = ap length c.as-slice.ensures ∙ sym (length-map (items_of c.args.chosen.now.entries) entry_of) in
-    let full : c.args.capacity ≤ length (chosen_of c.args.chosen.now) = omega (arith, c.if-as-slice-capacity.false, len) in
+    let len : length c.as_slice.result.now ≡ length (chosen_of c.args.chosen.now) = ap length c.as_slice.ensures ∙ sym (length-map (items_of c.args.chosen.now.entries) entry_of) in
+    let full : c.args.capacity ≤ length (chosen_of c.args.chosen.now) = omega (arith, c.if-as_slice-capacity.false, len) in
     record {
-      walk = λ es. walk_full (entry_of c.args.entry.now) es (table_of w.owned.job_progress) (g.E.CompactionExecutor.jobs w.executor).list (sym c.if-not-is-unclaimed.ensures) (sym c.if-has-row.ensures) (chosen_of c.args.chosen.now) c.args.chosen.now.stopped c.args.capacity full;
+      walk = λ es. walk_full (entry_of c.args.entry.now) es (table_of w.owned.job_progress) (g.E.CompactionExecutor.jobs w.executor).list (sym c.if-not-is_unclaimed.ensures) (sym c.if-has_row.ensures) (chosen_of c.args.chosen.now) c.args.chosen.now.stopped c.args.capacity full;
       held = refl;
       settings = refl;
       stopped = omega arith;

@@ -1,10 +1,10 @@
-use Rattle.std.proofs.Common.{◌≡◌, ◌+◌, true, List, [], ◌∷◌, map, drop, sym, refl, ap, ◌∙◌}
+use Rattle.std.proofs.Common.{◌≡◌, ◌+◌, true, ◌∷◌, map, drop, refl, ap, ◌∙◌}
 use Rattle.std.proofs.lemmas.List.{drop_all}
 use Rattle.table.specs.Tables.{holds, put}
 use Rattle.compactions.specs.Meanings.{entry_of}
 use Rattle.stores.specs.Records.{entry_id, with_entries}
 use Rattle.stores.specs.Meanings.{draft_of}
-use Rattle.worker.proofs.Drafts.{Marking, marking_more, inserted}
+use Rattle.worker.proofs.Drafts.{marking_more, inserted}
 use Rattle.worker.proofs.Coming.{coming}
 use Rattle.worker.proofs.compaction_worker.claim.mark_running.Goals as goal
 use Rattle.worker.proofs.compaction_worker.claim.mark_running.Goals.{After-insert}
@@ -19,10 +19,10 @@ at_hand c = coming entry_of c.args.chosen.now c.loop-entry.entry-index c.entry-i
 pub loop-entry-preserved : goal.loop-entry-preserved
 loop-entry-preserved c =
     let m = rw (at_hand c) at c.loop-entry.invariant in
-    let claimed = c.claimed-by.ensures in
-    let held : holds entry_id (entry_of c.claimed-by.result).id (draft_of c.loop-entry.draft).entries ≡ true = ap (λ e. holds entry_id e.id (draft_of c.loop-entry.draft).entries) claimed ∙ m.held.0 in
+    let claimed = c.claimed_by.ensures in
+    let held : holds entry_id (entry_of c.claimed_by.result).id (draft_of c.loop-entry.draft).entries ≡ true = ap (λ e. holds entry_id e.id (draft_of c.loop-entry.draft).entries) claimed ∙ m.held.0 in
     marking_more (draft_of c.insert.new.self) m
-    (inserted c.loop-entry.draft c.insert.new.self c.claimed-by.result c.insert.result held c.insert.ensures.value c.insert.ensures.after
+    (inserted c.loop-entry.draft c.insert.new.self c.claimed_by.result c.insert.result held c.insert.ensures.value c.insert.ensures.after
     ∙ ap (λ e. with_entries (draft_of c.loop-entry.draft) (put entry_id e (draft_of c.loop-entry.draft).entries)) claimed)
 
 pub returns : goal.returns

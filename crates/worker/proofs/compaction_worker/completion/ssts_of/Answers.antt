@@ -1,4 +1,4 @@
-use Rattle.std.proofs.Common.{◌≡◌, ℕ, ◌<◌, ◌≤◌, List, [], ◌∷◌, ◌++◌, map, length, get_or, take, sym, refl, ap, ◌∙◌, arith}
+use Rattle.std.proofs.Common.{◌≡◌, ◌<◌, ◌≤◌, [], ◌∷◌, ◌++◌, map, length, get_or, take, sym, ap, ◌∙◌, arith}
 use Rattle.std.proofs.lemmas.List.{length-map, length-take-le, map_more, take_all}
 use Rattle.std.proofs.lemmas.Simd.{map-map}
 use Rattle.compactions.specs.declared.db_state.SsTableView.{SsTableView}
@@ -12,11 +12,11 @@ loop-view-init c = ap (map sst_of) c.new-ssts.ensures
 
 pub loop-view-preserved : goal.loop-view-preserved
 loop-view-preserved c =
-    let xs = c.as-slice-view-items.result.now in
+    let xs = c.as_slice-view-items.result.now in
     let i = c.loop-view.view-index in
     let views = c.args.run.now.sst_views in
     let fits : views.len ≤ length views.items = omega (arith, views.within, views.whole) in
-    let many : length xs ≤ 8 = omega (arith, ap length c.as-slice-view-items.ensures, length-take-le views.len views.items fits, views.within) in
+    let many : length xs ≤ 8 = omega (arith, ap length c.as_slice-view-items.ensures, length-take-le views.len views.items fits, views.within) in
     let some : length (take i xs) ≡ i = length-take-le i xs c.loop-view.auto.view-index-end in
     let few : length (map sst_of (items_of c.loop-view.ssts)) < 8 = omega (arith, ap length c.loop-view.invariant, length-map (take i xs) (λ v. (view_of v).sst), some, many, c.loop-view-test.true) in
     let view : SsTableView = get_or xs i (record { id = record { high = 0; low = 0 }; sst = record { 0 = record { high = 0; low = 0 } } }) in
@@ -27,5 +27,5 @@ loop-view-preserved c =
 pub returns : goal.returns
 returns c =
     c.loop-view.invariant
-    ∙ ap (map (λ v. (view_of v).sst)) (take_all c.loop-view.view-index c.as-slice-view-items.result.now c.loop-view-test.false ∙ c.as-slice-view-items.ensures)
+    ∙ ap (map (λ v. (view_of v).sst)) (take_all c.loop-view.view-index c.as_slice-view-items.result.now c.loop-view-test.false ∙ c.as_slice-view-items.ensures)
     ∙ sym (map-map (λ v. v.sst) view_of (items_of c.args.run.now.sst_views))

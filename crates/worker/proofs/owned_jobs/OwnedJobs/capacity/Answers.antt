@@ -3,13 +3,13 @@ use Rattle.std.proofs.lemmas.List.{length-map}
 use Rattle.worker.specs.Meanings.{row_of, rows_in, table_of}
 use Rattle.worker.proofs.Owned.{tracked_jobs}
 use Rattle.worker.proofs.owned_jobs.OwnedJobs.capacity.Goals as goal
-use Rattle.worker.proofs.owned_jobs.OwnedJobs.capacity.Goals.{After-as-slice}
+use Rattle.worker.proofs.owned_jobs.OwnedJobs.capacity.Goals.{After-as_slice}
 
-as_many : (c : After-as-slice) → length c.as-slice.result.now ≡ length (table_of c.args.self.now.job_progress)
-as_many c = ap length c.as-slice.ensures ∙ sym (length-map (rows_in c.args.self.now.job_progress) row_of)
+as_many : (c : After-as_slice) → length c.as_slice.result.now ≡ length (table_of c.args.self.now.job_progress)
+as_many c = ap length c.as_slice.ensures ∙ sym (length-map (rows_in c.args.self.now.job_progress) row_of)
 
-pub overflow-sub-result : goal.overflow-sub-result
-overflow-sub-result c = omega (arith, as_many (goal.at.overflow-sub-result c).After-as-slice, (tracked_jobs c.args.self.now).room)
+pub overflow_sub-result : goal.overflow_sub-result
+overflow_sub-result c = omega (arith, as_many (goal.at.overflow_sub-result c).After-as_slice, (tracked_jobs c.args.self.now).room)
 
 pub returns : goal.returns
-returns c = ap (λ n. c.args.self.now.maximum - n) (as_many (goal.at.returns c).After-as-slice)
+returns c = ap (λ n. c.args.self.now.maximum - n) (as_many (goal.at.returns c).After-as_slice)

@@ -1,4 +1,4 @@
-use Rattle.std.proofs.Common.{◌≡◌, is_some, sym, ap, ◌∙◌}
+use Rattle.std.proofs.Common.{is_some, sym, ap, ◌∙◌}
 use Rattle.table.specs.Ids.{number, by}
 use Rattle.table.specs.Tables.{lookup}
 use Rattle.table.proofs.Proved.{lawful}
@@ -11,7 +11,7 @@ use Rattle.worker.proofs.owned_jobs.OwnedJobs.has_row.Goals as goal
 pub returns : goal.returns
 returns c =
     let xs = rows_in c.args.self.now.job_progress in
-    c.is-some.ensures
-    ∙ ap is_some (c.find.ensures ∙ ap (lookup (by (λ (p : Progress). p.id)) (number c.args.id)) c.as-slice.ensures)
+    c.is_some.ensures
+    ∙ ap is_some (c.find.ensures ∙ ap (lookup (by (λ (p : Progress). p.id)) (number c.args.id)) c.as_slice.ensures)
     ∙ sym ((lawful (by (λ (p : Progress). p.id))).holds_lookup (number c.args.id) xs)
     ∙ holds-map row_of row_id (number c.args.id) xs
