@@ -36,3 +36,9 @@ number_in base (b ∷ bs) = number_after base (Some 0) (b ∷ bs)
 abbrev pub below : ℕ → Option ℕ → Option ℕ
 below bound None = None
 below bound (Some n) = cond (nat_lt n bound) (Some n) None
+
+-- a byte of two hex digits
+abbrev pub byte_value : Option ℕ → Option ℕ → Option ℕ
+byte_value None low = None
+byte_value (Some h) None = None
+byte_value (Some h) (Some l) = Some (h * 16 + l)

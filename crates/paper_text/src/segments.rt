@@ -1,7 +1,7 @@
 // The bytes of a segment.
-ghost use Rattle.std.specs.Prelude.{◌≡◌, ◌+◌, ◌*◌, ◌<◌};
+ghost use Rattle.std.specs.Prelude.{◌≡◌, ◌+◌, ◌*◌, ◌<◌, IfSome};
 ghost use Rattle.std.specs.Option.{option_map};
-ghost use Rattle.paper_text.specs.Digits.{digit_value};
+ghost use Rattle.paper_text.specs.Digits.{digit_value, byte_value};
 ghost use Rattle.paper_text.specs.Words.{words};
 ghost use Rattle.paper_text.specs.Numbers.{value_of, all_digits, pairs, hex_bytes, segment_of, held, held_bytes};
 
@@ -59,7 +59,8 @@ fn bytes_of(digits: &[u8], over: Refusal) -> Result<Rows<u8, 16>, Refusal>
 }
 
 fn byte(high: u8, low: u8) -> u8
-    ensures { result ≡ value_of (digit_value high) * 16 + value_of (digit_value low) }
+    ensures value { result ≡ value_of (digit_value high) * 16 + value_of (digit_value low) }
+    ensures digits { IfSome (byte_value (digit_value high) (digit_value low)) (λ b. result ≡ b) }
 {
     value(high) * 16 + value(low)
 }
