@@ -67,17 +67,14 @@ def new_names(root):
     return names
 
 
-def respelled(text, names, clause_only):
-    """The text with the new names: of a source file only in clauses and ghost items, never in comments or strings."""
+def respelled(text, names, is_source):
+    """The text with the new names, but for its comments and strings."""
     out = []
     for line in text.split("\n"):
-        mark = "//" if clause_only else "-- "
+        mark = "//" if is_source else "-- "
         at = line.find(mark)
         head, tail = (line, "") if at < 0 else (line[:at], line[at:])
-        if clause_only:
-            parts = re.split(r"(b?\"(?:[^\"\\]|\\.)*\")", head)
-        else:
-            parts = [head]
+        parts = re.split(r"(b?\"(?:[^\"\\]|\\.)*\")", head)
         for i in range(0, len(parts), 2):
             parts[i] = TOKEN.sub(lambda m: names.get(m.group(), m.group()), parts[i])
         out.append("".join(parts) + tail)
@@ -94,10 +91,10 @@ def main():
         if len(olds) > 1:
             print(f"fall together: {', '.join(olds)} as {new}")
     changed = 0
-    for suffix, clause_only in ((".antt", False), (".rt", True), (".edit", True)):
+    for suffix, is_source in ((".antt", False), (".rt", True), (".edit", True)):
         for path in files(root, suffix):
             old = text_of(path)
-            new = respelled(old, names, clause_only)
+            new = respelled(old, names, is_source)
             if new != old:
                 with open(path, "w", encoding="utf-8") as f:
                     f.write(new)

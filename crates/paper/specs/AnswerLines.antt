@@ -31,7 +31,7 @@ abbrev pub small_part : List ℕ → Option (List ℕ) → Result Said Problem
 small_part k w =
     cond (bytes_eq k (codes "destination")) (or_else (option_map destination (with_word u32_of w)) (problems.Answer expected.Destination))
     (cond (bytes_eq k (codes "tick")) (or_else (option_map tick (with_word signed_of w)) (problems.Answer expected.Tick))
-    (cond (bytes_eq k (codes "last_run")) (or_else (option_map last_run (with_word (choice (codes "set") (codes "unset")) w)) (problems.Answer expected.LastRun))
+    (cond (bytes_eq k (codes "last-run")) (or_else (option_map last_run (with_word (choice (codes "set") (codes "unset")) w)) (problems.Answer expected.LastRun))
     (cond (bytes_eq k (codes "retention")) (or_else (option_map retention (with_word u64_of w)) (problems.Answer expected.Retention))
     (cond (bytes_eq k (codes "context")) (or_else (option_map context (with_word (choice (codes "present") (codes "absent")) w)) (problems.Answer expected.Context))
     (Err (problems.Answer expected.Part))))))

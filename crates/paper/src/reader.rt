@@ -1,5 +1,5 @@
 // A paper from its text, line by line.
-ghost use Rattle.std.specs.Prelude.{◌≡◌, true, ◌∷◌, IsUtf8, MatchResult};
+ghost use Rattle.std.specs.Prelude.{◌≡◌, true, ◌∷◌, IsUtf8, MatchResult, OnOk};
 ghost use Rattle.problems.specs.Texts.{NotText};
 ghost use Rattle.paper_text.specs.Words.{words};
 ghost use Rattle.problems.specs.Lines.{sufficed, sufficed_at};
@@ -162,6 +162,7 @@ impl Paper {
     // The paper that the bytes write, or the first problem with its line; only want of memory can
     // come before that.
     pub fn read(heap: Global, bytes: &[u8]) -> Result<Paper, PaperError>
+        ensures utf8 { OnOk result (IsUtf8 bytes.now) }
         ensures text { IsUtf8 bytes.now → sufficed_at result ≡ true → read_as paper_of result ≡ paper_in bytes.now }
         ensures no_text { (IsUtf8 bytes.now → ⊥) → MatchResult result (λ _. ⊥) (λ e. NotText bytes.now e) }
     {

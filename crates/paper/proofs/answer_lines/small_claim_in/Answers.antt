@@ -7,6 +7,6 @@ use Rattle.paper.proofs.answer_lines.small_claim_in.Goals as goal
 
 pub returns-then-is : goal.returns-then-is
 returns-then-is c =
-    c.or-expected.ensures
-    ∙ ap (λ o. or_else o (Answer Destination)) c.destination-in.ensures
+    c.or_expected.ensures
+    ∙ ap (λ o. or_else o (Answer Destination)) c.destination_in.ensures
     ∙ sym (cond-true _ _ _ (sym c.if-is.ensures))
