@@ -4,6 +4,7 @@
 use marking::marks::Marks;
 use paper::reader::Paper;
 use std::io::Read;
+use std::process::ExitCode;
 use std::{env, fs, io};
 
 // Prints the marked paper, or why it is refused; says whether it was marked.
@@ -63,9 +64,10 @@ fn run(rt: &HostRuntime) -> anyhow::Result<bool> {
 }
 
 // Status 1 where a paper is refused or cannot be read.
-fn main(rt: HostRuntime) -> Result<(), ()> {
-    match run(&rt) {
-        Ok(true) => Ok(()),
-        _ => Err(()),
+fn main(rt: HostRuntime) -> anyhow::Result<ExitCode> {
+    if run(&rt)? {
+        Ok(ExitCode::SUCCESS)
+    } else {
+        Ok(ExitCode::FAILURE)
     }
 }
