@@ -1,6 +1,6 @@
 // Why a paper is refused: the line, and what was expected there or which limit was passed.
 ghost use Rattle.std.specs.Prelude.{◌≡◌};
-ghost use Rattle.problems.specs.declared.error.Problem.TheVariants.{Memory};
+ghost use Rattle.problems.specs.declared.error.Problem.TheVariants.{Paper, Manifest, Entry, Answer, Memory};
 ghost use Rattle.problems.specs.Lines.{at};
 
 use crate::expected::{InAnswer, InEntry, InManifest, InPaper};
@@ -80,6 +80,38 @@ impl fmt::Display for PaperError {
         let line = self.line;
         let problem = self.problem;
         write!(f, "line {line}: {problem}")
+    }
+}
+
+impl From<InPaper> for Problem {
+    ghost from_gives = { λ what r. r ≡ Paper what };
+
+    fn from(what: InPaper) -> Problem {
+        Problem::Paper(what)
+    }
+}
+
+impl From<InManifest> for Problem {
+    ghost from_gives = { λ what r. r ≡ Manifest what };
+
+    fn from(what: InManifest) -> Problem {
+        Problem::Manifest(what)
+    }
+}
+
+impl From<InEntry> for Problem {
+    ghost from_gives = { λ what r. r ≡ Entry what };
+
+    fn from(what: InEntry) -> Problem {
+        Problem::Entry(what)
+    }
+}
+
+impl From<InAnswer> for Problem {
+    ghost from_gives = { λ what r. r ≡ Answer what };
+
+    fn from(what: InAnswer) -> Problem {
+        Problem::Answer(what)
     }
 }
 
