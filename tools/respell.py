@@ -4,7 +4,7 @@
 usage: python3 tools/respell.py      at the top of a repository that port.py has just turned
 
 Types and facts become upper camel case. Every other name becomes snake case, but in a lemma a dash
-stays where it joins the names of two functions, as in length-put. Names that Rattle makes (goals,
+stays where it joins the names of two functions, as in holds-map. Names that Rattle makes (goals,
 steps, invariants), names of src/, strings and comments stay.
 """
 

@@ -1,11 +1,11 @@
 -- The bytes of hex digits.
-use Rattle.std.proofs.Common.{◌≡◌, ℕ, ◌+◌, ◌*◌, ◌<◌, ◌≤◌, Bool, true, false, cond, eqb, List, [], ◌∷◌, ◌++◌, length, get_or, drop, is_some, Some, None, Ok, Err, Option, Result, sym, refl, ap, ◌∙◌, subst, arith}
+use Rattle.std.proofs.Common.{◌≡◌, ℕ, ◌+◌, ◌<◌, ◌≤◌, Bool, true, false, cond, eqb, List, [], ◌∷◌, ◌++◌, length, get_or, drop, is_some, Some, None, Ok, Err, Option, Result, sym, refl, ap, ◌∙◌, subst, arith}
 use Rattle.std.proofs.lemmas.List.{at_drop_more, at_drop_all, append-nil, append_assoc, length-append}
 use Rattle.std.proofs.lemmas.Bool.{lt-leb, le-leb}
 use Rattle.compactions.specs.Refusals.{number_of, refused_with, unless}
 use Rattle.compactions.specs.declared.refusal.Refusal.{Refusal}
 use Rattle.compactions.specs.declared.refusal.Refusal.TheVariants.{Count, ManifestCount, Prefix, Maximum, AttemptLimit, InvalidCompaction}
-use Rattle.paper_text.specs.Digits.{digit_value}
+use Rattle.paper_text.specs.Digits.{digit_value, byte_value}
 use Rattle.paper_text.specs.Numbers.{all_digits, value_of, pairs, held}
 
 module _ (ds : List ℕ) (i : ℕ) (rest : all_digits (drop i ds) ≡ all_digits ds) where
@@ -42,7 +42,7 @@ held_all : (over : Refusal) (done : List ℕ) → length done ≤ 16 → Ok done
 held_all over done n = rw (le-leb (length done) 16 n) refl
 
 -- the first pair of digits
-pub pairs_more : (ds : List ℕ) → 2 ≤ length ds → pairs ds ≡ (value_of (digit_value (get_or ds 0 0)) * 16 + value_of (digit_value (get_or ds 1 0))) ∷ pairs (drop 2 ds)
+pub pairs_more : (ds : List ℕ) → 2 ≤ length ds → pairs ds ≡ value_of (byte_value (digit_value (get_or ds 0 0)) (digit_value (get_or ds 1 0))) ∷ pairs (drop 2 ds)
 pairs_more [] h = absurd (omega arith)
 pairs_more (x ∷ []) h = absurd (omega arith)
 pairs_more (x ∷ (y ∷ ds)) h = refl
@@ -53,7 +53,7 @@ pairs_done [] h = refl
 pairs_done (x ∷ []) h = refl
 pairs_done (x ∷ (y ∷ ds)) h = absurd (omega arith)
 
-module _ (over : Refusal) (done ds all : List ℕ) (x : ℕ) (inv : done ++ pairs ds ≡ all) (h : 2 ≤ length ds) (e : x ≡ value_of (digit_value (get_or ds 0 0)) * 16 + value_of (digit_value (get_or ds 1 0))) where
+module _ (over : Refusal) (done ds all : List ℕ) (x : ℕ) (inv : done ++ pairs ds ≡ all) (h : 2 ≤ length ds) (e : x ≡ value_of (byte_value (digit_value (get_or ds 0 0)) (digit_value (get_or ds 1 0)))) where
   next : pairs ds ≡ x ∷ pairs (drop 2 ds)
   next = pairs_more ds h ∙ ap (λ v. v ∷ pairs (drop 2 ds)) (sym e)
 

@@ -1,10 +1,10 @@
 -- Numbers, ids, views and segments, as words write them.
-use Rattle.std.specs.Prelude.{ℕ, ◌+◌, ◌*◌, ◌%◌, ◌^◌, Bool, true, cond, ◌&&◌, List, [], ◌∷◌, length, ℤ, pos, neg_ℤ, is_some, Some, None, Ok, Err, codes, Option, Result, ◌==◌, nat_le, nat_lt}
+use Rattle.std.specs.Prelude.{ℕ, ◌%◌, ◌^◌, Bool, true, cond, ◌&&◌, List, [], ◌∷◌, length, ℤ, pos, neg_ℤ, is_some, Some, None, Ok, Err, codes, Option, Result, ◌==◌, nat_le, nat_lt}
 use Rattle.compactions.specs.Counted.{items_of}
 use Rattle.compactions.specs.Trees.{View}
 use Rattle.compactions.specs.declared.refusal.Refusal.{Refusal}
 use Rattle.compactions.specs.declared.rows.Rows.{Rows}
-use Rattle.paper_text.specs.Digits.{digit_value, number_in, below}
+use Rattle.paper_text.specs.Digits.{digit_value, number_in, below, byte_value}
 use Rattle.paper_text.specs.Lines.{parts}
 
 -- what follows a beginning
@@ -58,7 +58,7 @@ view_at (Some p) = view_by (id_of p.0) (id_of p.1)
 abbrev pub view_in : List ℕ → Option View
 view_in w = view_at (parts 61 w)
 
--- the value of a digit; 0 where it is none
+-- a value; 0 where there is none
 abbrev pub value_of : Option ℕ → ℕ
 value_of None = 0
 value_of (Some d) = d
@@ -71,7 +71,7 @@ all_digits (b ∷ bs) = is_some (digit_value b) && all_digits bs
 abbrev pub pairs : List ℕ → List ℕ
 pairs [] = []
 pairs (h ∷ []) = []
-pairs (h ∷ (l ∷ ds)) = (value_of (digit_value h) * 16 + value_of (digit_value l)) ∷ pairs ds
+pairs (h ∷ (l ∷ ds)) = value_of (byte_value (digit_value h) (digit_value l)) ∷ pairs ds
 
 -- pairs of hex digits, at least one
 abbrev pub hex_bytes : List ℕ → Option (List ℕ)

@@ -1,5 +1,5 @@
 // The bytes of a segment.
-ghost use Rattle.std.specs.Prelude.{◌≡◌, ◌+◌, ◌*◌, ◌<◌, IfSome};
+ghost use Rattle.std.specs.Prelude.{◌≡◌};
 ghost use Rattle.std.specs.Option.{option_map};
 ghost use Rattle.paper_text.specs.Digits.{digit_value, byte_value};
 ghost use Rattle.paper_text.specs.Words.{words};
@@ -52,26 +52,27 @@ fn bytes_of(digits: &[u8], over: Refusal) -> Result<Rows<u8, 16>, Refusal>
     let mut bytes = Rows::new(0);
     let mut rest = digits;
     while rest.len() >= 2 {
-        bytes.push(byte(rest[0], rest[1]), over)?;
+        bytes.push(byte_or_zero(rest[0], rest[1]), over)?;
         rest = &rest[2..];
     }
     Ok(bytes)
 }
 
-fn byte(high: u8, low: u8) -> u8
-    ensures value { result ≡ value_of (digit_value high) * 16 + value_of (digit_value low) }
-    ensures digits { IfSome (byte_value (digit_value high) (digit_value low)) (λ b. result ≡ b) }
+// The byte of two digits; none where one of them is no digit.
+fn byte(high: u8, low: u8) -> Option<u8>
+    ensures { result ≡ byte_value (digit_value high) (digit_value low) }
 {
-    value(high) * 16 + value(low)
+    let high = digit(high)?;
+    let low = digit(low)?;
+    Some(high * 16 + low)
 }
 
-// The value of a digit; 0 where it is none.
-fn value(b: u8) -> u8
-    ensures value { result ≡ value_of (digit_value b) }
-    ensures below { result < 16 }
+// The same, with 0 for none.
+fn byte_or_zero(high: u8, low: u8) -> u8
+    ensures { result ≡ value_of (byte_value (digit_value high) (digit_value low)) }
 {
-    match digit(b) {
-        Some(value) => value,
+    match byte(high, low) {
+        Some(byte) => byte,
         None => 0,
     }
 }

@@ -12,12 +12,12 @@ returns-in_err-push c =
     let p = err_from_is_err_and c.from_residual.result c.from_residual.ensures.1 in
     let q = push_refused c.push.result _ c.args.over _ c.in_err-push.was c.push.ensures.value in
     ap held_bytes p.1 ∙ ap Err (p.2 ∙ q.0)
-    ∙ bytes_over c.args.over _ c.loop-rest.rest.now _ _ c.loop-rest.invariant c.loop-rest-test.true c.byte.ensures.value (ltb-false _ _ q.1)
+    ∙ bytes_over c.args.over _ c.loop-rest.rest.now _ _ c.loop-rest.invariant c.loop-rest-test.true c.byte_or_zero.ensures (ltb-false _ _ q.1)
 
 pub loop-rest-preserved : goal.loop-rest-preserved
 loop-rest-preserved c =
     ap (λ ds. items_of c.push.new.self ++ pairs ds) (take_rest c.loop-rest.rest.now 2)
-    ∙ bytes_go c.args.over _ c.loop-rest.rest.now _ _ c.loop-rest.invariant c.loop-rest-test.true c.byte.ensures.value _ c.in_ok-push.ensures.after
+    ∙ bytes_go c.args.over _ c.loop-rest.rest.now _ _ c.loop-rest.invariant c.loop-rest-test.true c.byte_or_zero.ensures _ c.in_ok-push.ensures.after
 
 pub returns : goal.returns
 returns c =
