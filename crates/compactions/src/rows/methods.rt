@@ -6,7 +6,7 @@ use super::Rows;
 use crate::refusal::Refusal;
 use std::alloc::AllocError;
 
-// By hand, since a derive gives none beside a ghost field.
+// By hand, since a derive gives none of a generic struct with a ghost field.
 impl<T: Copy, const N: usize> Clone for Rows<T, N> {
     ghost is_clone = { λ x y. y ≡ x };
 
