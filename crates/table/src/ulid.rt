@@ -2,38 +2,64 @@
 ghost use Rattle.std.specs.Prelude.{◌≡◌, Decides, ◌==◌, nat_lt};
 ghost use Rattle.table.specs.Ids.{number};
 
-#[derive(Clone, Copy)]
+use std::fmt;
+
+#[derive(Clone, Copy, PartialEq, Eq, PartialOrd, Ord, Debug)]
 pub struct Ulid {
     pub high: u64,
     pub low: u64,
+}
+
+impl From<u128> for Ulid {
+    ghost from_gives = { λ value id. number id ≡ value };
+
+    fn from(value: u128) -> Ulid {
+        Ulid {
+            high: (value / 0x1_0000_0000_0000_0000) as u64,
+            low: (value % 0x1_0000_0000_0000_0000) as u64,
+        }
+    }
+}
+
+impl From<Ulid> for u128 {
+    ghost from_gives = { λ id value. value ≡ number id };
+
+    fn from(id: Ulid) -> u128 {
+        id.high as u128 * 0x1_0000_0000_0000_0000 + id.low as u128
+    }
+}
+
+// The number of its 128 bits, as a decimal.
+impl fmt::Display for Ulid {
+    fn fmt<W: fmt::Write>(&self, f: &mut fmt::Formatter<W>) -> fmt::Result {
+        let number = u128::from(*self);
+        write!(f, "{number}")
+    }
 }
 
 impl Ulid {
     pub fn from_u128(value: u128) -> Ulid
         ensures { number result ≡ value }
     {
-        Ulid {
-            high: (value / 0x1_0000_0000_0000_0000) as u64,
-            low: (value % 0x1_0000_0000_0000_0000) as u64,
-        }
+        Ulid::from(value)
     }
 
     pub fn to_u128(self) -> u128
         ensures { result ≡ number self }
     {
-        self.high as u128 * 0x1_0000_0000_0000_0000 + self.low as u128
+        u128::from(self)
     }
 
     pub fn is_before(self, other: Ulid) -> bool
         ensures { result ≡ nat_lt (number self) (number other) }
     {
-        self.high < other.high || (self.high == other.high && self.low < other.low)
+        self < other
     }
 
     pub fn is(self, other: Ulid) -> bool
         ensures number { result ≡ (number self == number other) }
         ensures same { Decides result (self ≡ other) }
     {
-        self.high == other.high && self.low == other.low
+        self == other
     }
 }
