@@ -1,4 +1,3 @@
-pub mod Ticks
 pub mod JobRows
 pub mod Scans
 pub mod Running

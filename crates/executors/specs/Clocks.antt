@@ -1,15 +1,14 @@
 -- A clock by its meaning.
-use Rattle.std.specs.Prelude.{ℕ, suc, ◌-◌, ◌^◌, List, [], ◌∷◌, drop, ℤ, pos, negsuc}
-use Rattle.executors.specs.declared.clock.ListClock.{ListClock}
+use Rattle.std.specs.Prelude.{ℕ, suc, ◌-◌, ◌^◌, List, [], ◌∷◌, ℤ, pos, negsuc}
 
 -- the readings ahead, and the last that was given, at first 0
 pub record Readings : Type 0 where
   pub ahead : List ℤ
   pub last : ℤ
 
--- what a clock stands for
-abbrev pub readings_of : ListClock → Readings
-readings_of c = record { ahead = drop c.at c.readings.now; last = c.last }
+-- a clock stands for its readings
+abbrev pub readings_of : Readings → Readings
+readings_of t = t
 
 -- the next reading: the first ahead, else the last again
 abbrev pub reading : Readings → ℤ

@@ -1,18 +1,17 @@
 -- A source of manifests by its meaning: the answers ahead, each a manifest or a cause.
-use Rattle.std.specs.Prelude.{ℕ, List, [], ◌∷◌, map, drop, Ok, Err, Result}
+use Rattle.std.specs.Prelude.{ℕ, List, [], ◌∷◌, Ok, Err, Result}
 use Rattle.compactions.specs.Trees.{Manifest}
 use Rattle.compactions.specs.Meanings.{manifest_of}
 use Rattle.compactions.specs.declared.manifest.Manifest as manifests
-use Rattle.executors.specs.declared.manifest_source.ListManifests.{ListManifests}
 
 -- an answer by its meaning
 abbrev pub answer_of : Result manifests.Manifest ℕ → Result Manifest ℕ
 answer_of (Ok m) = Ok (manifest_of m)
 answer_of (Err c) = Err c
 
--- the answers ahead
-abbrev pub answers_of : ListManifests → List (Result Manifest ℕ)
-answers_of s = map answer_of (drop s.at s.answers.now)
+-- a source stands for the answers ahead
+abbrev pub answers_of : List (Result Manifest ℕ) → List (Result Manifest ℕ)
+answers_of xs = xs
 
 -- the first of them; after the end cause 0
 abbrev pub given : List (Result Manifest ℕ) → Result Manifest ℕ

@@ -1,45 +1,51 @@
 // A clock that gives the readings of a lent list in order, then the last one again.
 ghost use Rattle.std.specs.Prelude.{◌≡◌, pos};
-ghost use Rattle.executors.specs.Clocks.{readings_of, reading, passed, stamped};
+ghost use Rattle.executors.specs.Clocks.{reading, passed, stamped};
 
-// `last` is the reading given last, at first 0.
+use std::marker::Model;
+use std::slice::Iter;
+
+// The readings ahead, and the reading given last, at first 0.
 #[derive(Drop)]
 pub struct ListClock<'a> {
-    readings: &'a [i64],
-    at: usize,
+    ahead: Iter<'a, i64>,
     last: i64,
+}
+
+impl<'a> Model for ListClock<'a> {
+    ghost use Rattle.std.specs.Slice.Iter.{iter_rest};
+    ghost use Rattle.executors.specs.Clocks.{Readings};
+
+    ghost Value = { Readings };
+
+    ghost view = { λ c. record { ahead = iter_rest c.ahead; last = c.last } };
 }
 
 impl<'a> ListClock<'a> {
     pub fn new(readings: &'a [i64]) -> ListClock<'a>
-        ensures { readings_of result ≡ record { ahead = readings.now; last = pos 0 } }
+        ensures { result ≡ record { ahead = readings.now; last = pos 0 } }
     {
         ListClock {
-            readings,
-            at: 0,
+            ahead: readings.iter(),
             last: 0,
         }
     }
 
     // The next reading; after the end the last one again, or 0 where there was none.
     pub fn read(&mut self) -> i64
-        ensures value { result ≡ reading (readings_of self.old) }
-        ensures after { readings_of self.new ≡ passed (readings_of self.old) }
+        ensures value { result ≡ reading self.old }
+        ensures after { self.new ≡ passed self.old }
     {
-        if self.at < self.readings.len() {
-            let reading = self.readings[self.at];
-            self.at += 1;
-            self.last = reading;
-            reading
-        } else {
-            self.last
+        if let Some(reading) = self.ahead.next() {
+            self.last = *reading;
         }
+        self.last
     }
 
     // The next reading as a stamp.
     pub fn stamp(&mut self) -> u64
-        ensures value { result ≡ stamped (reading (readings_of self.old)) }
-        ensures after { readings_of self.new ≡ passed (readings_of self.old) }
+        ensures value { result ≡ stamped (reading self.old) }
+        ensures after { self.new ≡ passed self.old }
     {
         stamp_of(self.read())
     }
@@ -49,9 +55,5 @@ impl<'a> ListClock<'a> {
 fn stamp_of(reading: i64) -> u64
     ensures { result ≡ stamped reading }
 {
-    if reading >= 0 {
-        reading as u64
-    } else {
-        u64::MAX - (-(reading + 1)) as u64
-    }
+    reading.cast_unsigned()
 }
