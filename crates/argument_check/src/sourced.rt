@@ -1,7 +1,7 @@
 // The rows of a tree that a source can name: views and sorted runs.
 ghost use Rattle.std.specs.Prelude.{◌≡◌, ℕ, ◌≤◌, map, length, None, Option, ◌==◌};
 ghost use Rattle.std.specs.Option.{option_map};
-ghost use Rattle.compactions.specs.Counted.{items_of};
+ghost use Rattle.table.specs.Counted.{items_of};
 ghost use Rattle.compactions.specs.Entries.{Source};
 ghost use Rattle.table.specs.Ids.{number};
 ghost use Rattle.compactions.specs.Meanings.{source_of};

@@ -3,7 +3,7 @@ use Rattle.std.specs.Prelude.{ℕ, Bool, List, map, ℤ, Option}
 use Rattle.std.specs.Option.{option_map}
 use Rattle.table.specs.Ids.{number}
 use Rattle.compactions.specs.declared.job_args.StartCompactionJobArgs.{StartCompactionJobArgs}
-use Rattle.compactions.specs.Counted.{items_of}
+use Rattle.table.specs.Counted.{items_of}
 use Rattle.compactions.specs.Entries.{Context}
 use Rattle.compactions.specs.Meanings.{view_of, run_of, context_of}
 use Rattle.compactions.specs.Trees.{View, Run}

@@ -1,5 +1,4 @@
 pub mod Refusals
-pub mod Counted
 pub mod Entries
 pub mod Trees
 pub mod Prefixes

@@ -17,7 +17,7 @@ use Rattle.compactions.specs.declared.db_state.SortedRun.{SortedRun}
 use Rattle.compactions.specs.declared.manifest.LsmTreeState.{LsmTreeState}
 use Rattle.compactions.specs.declared.manifest.Segment as segments
 use Rattle.compactions.specs.declared.manifest.Manifest as manifests
-use Rattle.compactions.specs.Counted.{items_of}
+use Rattle.table.specs.Counted.{items_of}
 use Rattle.table.specs.Ids.{number}
 use Rattle.compactions.specs.Entries.{Source, run, view, Spec, tiered, drain, Status, submitted, scheduled, running, compacted, completed, failed, Owner, Sub, Context, Entry}
 use Rattle.compactions.specs.Trees.{View, Run, Tree, Segment, Manifest}

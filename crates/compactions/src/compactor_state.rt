@@ -4,7 +4,7 @@
 // sizes with refusals, numbers for worker names and key ranges, byte counts left out.
 ghost use Rattle.std.specs.Prelude.{◌≡◌, ◌≤◌, [], map, length, is_ok, IfOk, if◌then◌else◌, None, nat_le, nat_lt};
 ghost use Rattle.table.specs.Ids.{number};
-ghost use Rattle.compactions.specs.Counted.{items_of};
+ghost use Rattle.table.specs.Counted.{items_of};
 ghost use Rattle.compactions.specs.Entries.{tiered, drain, submitted, spec_segment, spec_sources, spec_destination, more_sources, more_subs, more_sub_outputs, more_outputs};
 ghost use Rattle.compactions.specs.Meanings.{source_of, spec_of, sst_of, sub_of, context_of, entry_of};
 ghost use Rattle.compactions.specs.Refusals.{refused_with, unless};

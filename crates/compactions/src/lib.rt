@@ -7,4 +7,5 @@ pub mod job_args;
 pub mod manifest;
 mod prefix;
 pub mod refusal;
-pub mod rows;
+
+pub use table::rows;

@@ -3,7 +3,7 @@
 // Reworked from src/manifest/mod.rs of slatedb 0.16.0 (Apache-2.0, see NOTICE); changed: fixed
 // sizes with refusals, and only what the argument check reads.
 ghost use Rattle.std.specs.Prelude.{◌≡◌, true, [], map};
-ghost use Rattle.compactions.specs.Counted.{items_of};
+ghost use Rattle.table.specs.Counted.{items_of};
 ghost use Rattle.compactions.specs.Prefixes.{rises};
 
 use crate::db_state::{SortedRun, SsTableView};

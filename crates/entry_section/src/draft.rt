@@ -2,7 +2,7 @@
 ghost use Rattle.std.specs.Prelude.{◌≡◌, false, length, None, Ok, ◌==◌};
 ghost use Rattle.std.specs.Option.{option_map};
 ghost use Rattle.table.specs.Ids.{number};
-ghost use Rattle.compactions.specs.Counted.{items_of};
+ghost use Rattle.table.specs.Counted.{items_of};
 ghost use Rattle.compactions.specs.Entries.{spec_sources};
 ghost use Rattle.compactions.specs.Meanings.{spec_of, entry_of, source_of, sst_of, context_of, sub_of};
 ghost use Rattle.compactions.specs.declared.refusal.Refusal.TheVariants.{Count};

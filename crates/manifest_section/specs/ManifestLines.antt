@@ -2,7 +2,7 @@
 use Rattle.std.specs.Prelude.{ℕ, Bool, true, false, cond, ◌&&◌, List, [], ◌∷◌, map, length, ℤ, pos, Some, None, Ok, Err, codes, Option, Result, nat_le, nat_lt}
 use Rattle.std.specs.Option.{option_map}
 use Rattle.std.specs.Str.{bytes_eq}
-use Rattle.compactions.specs.Counted.{items_of}
+use Rattle.table.specs.Counted.{items_of}
 use Rattle.compactions.specs.Meanings.{tree_of, manifest_of}
 use Rattle.compactions.specs.Prefixes.{before, latest}
 use Rattle.compactions.specs.Trees.{View, Run, Tree, Manifest, more_views, more_tree_views, more_tree_runs, more_segments}

@@ -1,7 +1,7 @@
 // The lines of a manifest, each as a step on what was read.
 ghost use Rattle.std.specs.Prelude.{◌≡◌, Ok};
 ghost use Rattle.std.specs.Option.{option_map};
-ghost use Rattle.compactions.specs.Counted.{items_of};
+ghost use Rattle.table.specs.Counted.{items_of};
 ghost use Rattle.compactions.specs.Meanings.{tree_of, manifest_of};
 ghost use Rattle.paper_text.specs.Words.{words};
 ghost use Rattle.problems.specs.Outcomes.{read_as, then};

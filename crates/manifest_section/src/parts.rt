@@ -1,7 +1,7 @@
 // The parts of a manifest, each from the rest of a line.
 ghost use Rattle.std.specs.Prelude.{◌≡◌};
 ghost use Rattle.std.specs.Option.{option_map};
-ghost use Rattle.compactions.specs.Counted.{items_of};
+ghost use Rattle.table.specs.Counted.{items_of};
 ghost use Rattle.compactions.specs.Meanings.{view_of, run_of, tree_of, manifest_of};
 ghost use Rattle.compactions.specs.declared.refusal.Refusal.TheVariants.{ManifestCount};
 ghost use Rattle.paper_text.specs.Words.{words, only_word};

@@ -1,10 +1,9 @@
 -- The bytes of hex digits.
-use Rattle.std.proofs.Common.{◌≡◌, ℕ, ◌+◌, ◌<◌, ◌≤◌, Bool, true, false, cond, eqb, List, [], ◌∷◌, ◌++◌, length, get_or, drop, is_some, Some, None, Ok, Err, Option, Result, sym, refl, ap, ◌∙◌, subst, arith}
+use Rattle.std.proofs.Common.{◌≡◌, ℕ, ◌+◌, ◌<◌, ◌≤◌, Bool, true, false, cond, List, [], ◌∷◌, ◌++◌, length, get_or, drop, is_some, is_ok, Some, Ok, Err, Option, Result, sym, refl, ap, ◌∙◌, subst, arith}
 use Rattle.std.proofs.lemmas.List.{at_drop_more, at_drop_all, append-nil, append_assoc, length-append}
-use Rattle.std.proofs.lemmas.Bool.{lt-leb, le-leb}
-use Rattle.compactions.specs.Refusals.{number_of, refused_with, unless}
+use Rattle.std.proofs.lemmas.Bool.{lt-leb, le-leb, true≢false}
+use Rattle.std.specs.Result.{result_err}
 use Rattle.compactions.specs.declared.refusal.Refusal.{Refusal}
-use Rattle.compactions.specs.declared.refusal.Refusal.TheVariants.{Count, ManifestCount, Prefix, Maximum, AttemptLimit, InvalidCompaction}
 use Rattle.paper_text.specs.Digits.{digit_value, byte_value}
 use Rattle.paper_text.specs.Numbers.{all_digits, value_of, pairs, held}
 
@@ -18,25 +17,10 @@ module _ (ds : List ℕ) (i : ℕ) (rest : all_digits (drop i ds) ≡ all_digits
   pub digits_all : length ds ≤ i → true ≡ all_digits ds
   digits_all h = sym (at_drop_all all_digits ds i h) ∙ rest
 
--- a refusal back from its number
-abbrev refusal_at : ℕ → Refusal
-refusal_at n = cond (eqb n 1) Count (cond (eqb n 2) ManifestCount (cond (eqb n 3) Prefix (cond (eqb n 4) Maximum (cond (eqb n 5) AttemptLimit InvalidCompaction))))
-
-there_and_back : (e : Refusal) → refusal_at (number_of e) ≡ e
-there_and_back Count = refl
-there_and_back ManifestCount = refl
-there_and_back Prefix = refl
-there_and_back Maximum = refl
-there_and_back AttemptLimit = refl
-there_and_back InvalidCompaction = refl
-
-same_refusal : (e f : Refusal) → number_of e ≡ number_of f → e ≡ f
-same_refusal e f h = sym (there_and_back e) ∙ ap refusal_at h ∙ there_and_back f
-
 -- a push that is refused is refused with what was given, and there is no place
-pub push_refused : {X : Type 0} (r : Result X Refusal) (e over : Refusal) (b : Bool) → r ≡ Err e → refused_with r ≡ unless b (number_of over) → (e ≡ over) × (b ≡ false)
-push_refused r e over true p q = let z : ◌≡◌ {A = Option ℕ} (Some (number_of e)) None = ap refused_with (sym p) ∙ q in let y : ◌≡◌ {A = ℕ} 0 1 = cc in absurd (omega arith)
-push_refused r e over false p q = (same_refusal e over (let z : ◌≡◌ {A = Option ℕ} (Some (number_of e)) (Some (number_of over)) = ap refused_with (sym p) ∙ q in cc), refl)
+pub push_refused : {E : Type 0} (r : Result (Unit {0}) E) (e over : E) (b : Bool) → r ≡ Err e → r ≡ cond b (Ok tt) (Err over) → (e ≡ over) × (b ≡ false)
+push_refused r e over true p q = let z : ◌≡◌ {A = Bool} true false = ap is_ok (sym q ∙ p) in absurd (true≢false z)
+push_refused r e over false p q = (let z : ◌≡◌ {A = Option _} (Some e) (Some over) = ap result_err (sym p ∙ q) in cc, refl)
 
 held_all : (over : Refusal) (done : List ℕ) → length done ≤ 16 → Ok done ≡ held over done
 held_all over done n = rw (le-leb (length done) 16 n) refl

@@ -1,9 +1,9 @@
 -- Numbers, ids, views and segments, as words write them.
 use Rattle.std.specs.Prelude.{ℕ, ◌%◌, ◌^◌, Bool, true, cond, ◌&&◌, List, [], ◌∷◌, length, ℤ, pos, neg_ℤ, is_some, Some, None, Ok, Err, codes, Option, Result, ◌==◌, nat_le, nat_lt}
-use Rattle.compactions.specs.Counted.{items_of}
+use Rattle.table.specs.Counted.{items_of}
 use Rattle.compactions.specs.Trees.{View}
 use Rattle.compactions.specs.declared.refusal.Refusal.{Refusal}
-use Rattle.compactions.specs.declared.rows.Rows.{Rows}
+use Rattle.table.specs.declared.rows.Rows.{Rows}
 use Rattle.paper_text.specs.Digits.{digit_value, number_in, below, byte_value}
 use Rattle.paper_text.specs.Lines.{parts}
 

@@ -4,3 +4,4 @@ pub mod Proved
 pub mod Mapped
 pub mod Order
 pub mod Absurd
+pub mod Pushes

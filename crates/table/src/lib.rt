@@ -2,6 +2,7 @@
 #![tactic(auto)]
 
 pub mod row;
+pub mod rows;
 pub mod scan;
 pub mod table;
 pub mod ulid;

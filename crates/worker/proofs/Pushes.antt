@@ -1,10 +1,10 @@
 -- A row pushed where there is room, by its meaning.
 use Rattle.std.proofs.Common.{◌≡◌, ℕ, ◌<◌, Bool, true, false, cond, ltb, [], ◌∷◌, ◌++◌, map, length, is_ok, Ok, Err, Result, refl, ap, ◌∙◌}
 use Rattle.std.proofs.lemmas.List.{length-map, map-append}
-use Rattle.std.proofs.lemmas.Bool.{lt-ltb}
-use Rattle.compactions.specs.Counted.{items_of}
+use Rattle.table.proofs.Pushes.{fitted}
+use Rattle.table.specs.Counted.{items_of}
 use Rattle.compactions.specs.Refusals.{refused_with, unless}
-use Rattle.compactions.specs.declared.rows.Rows.{Rows}
+use Rattle.table.specs.declared.rows.Rows.{Rows}
 use Rattle.compactions.specs.declared.refusal.Refusal.{Refusal}
 
 -- an answer that is not refused
@@ -13,8 +13,7 @@ taken (Ok x) b n e t = refl
 taken (Err f) true n e t = cc
 taken (Err f) false n e t = cc
 
-pub pushed : {X Y : Type 0} (f : X → Y) (xs ys : Rows X 8) (x : X) (r : Result (Unit {0}) Refusal) → length (map f (items_of xs)) < 8 → refused_with r ≡ unless (ltb (length (items_of xs)) 8) 1 → items_of ys ≡ cond (is_ok r) (items_of xs ++ (x ∷ [])) (items_of xs) → map f (items_of ys) ≡ map f (items_of xs) ++ (f x ∷ [])
-pushed f xs ys x r lt said e =
-    let l : ltb (length (items_of xs)) 8 ≡ true = lt-ltb _ 8 (rw (length-map (items_of xs) f) at lt) in
-    let ok = taken r _ 1 said l in
-    ap (map f) (e ∙ ap (λ b. cond b (items_of xs ++ (x ∷ [])) (items_of xs)) ok) ∙ map-append f (items_of xs) (x ∷ [])
+pub pushed : {X Y : Type 0} (f : X → Y) (xs ys : Rows X 8) (x : X) (full : Refusal) (r : Result (Unit {0}) Refusal) → length (map f (items_of xs)) < 8 → r ≡ cond (ltb (length (items_of xs)) 8) (Ok tt) (Err full) → items_of ys ≡ cond (is_ok r) (items_of xs ++ (x ∷ [])) (items_of xs) → map f (items_of ys) ≡ map f (items_of xs) ++ (f x ∷ [])
+pushed f xs ys x full r lt said e =
+    let few : length (items_of xs) < 8 = rw (length-map (items_of xs) f) at lt in
+    ap (map f) (fitted r (items_of xs) (items_of ys) x full 8 said few e) ∙ map-append f (items_of xs) (x ∷ [])

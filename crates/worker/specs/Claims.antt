@@ -1,6 +1,6 @@
 -- What claimed entries mean.
 use Rattle.std.specs.Prelude.{ℕ, ◌+◌, List, [], ◌∷◌, ◌++◌, map, drop, Some, None, Option}
-use Rattle.compactions.specs.Counted.{items_of}
+use Rattle.table.specs.Counted.{items_of}
 use Rattle.compactions.specs.Entries.{Entry}
 use Rattle.compactions.specs.Meanings.{entry_of}
 use Rattle.worker_steps.specs.Claims.{Walked}

@@ -1,7 +1,7 @@
 // Claimed entries as tokens: each has to be started, released or left behind, and none can be let go.
 ghost use Rattle.std.specs.Prelude.{◌≡◌, ◌≤◌, [], map, length};
 ghost use Rattle.table.specs.Ids.{number};
-ghost use Rattle.compactions.specs.Counted.{items_of};
+ghost use Rattle.table.specs.Counted.{items_of};
 ghost use Rattle.compactions.specs.Meanings.{entry_of};
 ghost use Rattle.worker.specs.Claims.{chosen_of, waiting, claimed, first_of, rest_of};
 

@@ -6,7 +6,7 @@ use Rattle.compactions.specs.declared.compactor_state.Compaction.{Compaction}
 use Rattle.compactions.specs.declared.manifest.Manifest as manifests
 use Rattle.argument_check.specs.Answers.{Answer, checked}
 use Rattle.argument_check.specs.Check.{job_args}
-use Rattle.compactions.specs.Counted.{items_of}
+use Rattle.table.specs.Counted.{items_of}
 use Rattle.compactions.specs.Meanings.{view_of, run_of, segment_of, entry_of, manifest_of}
 use Rattle.argument_check.specs.Passing.{Passing}
 use Rattle.compactions.specs.Prefixes.{rises}

@@ -1,7 +1,7 @@
 // The completion of a job: its entry becomes Compacted with the outputs of its run.
 ghost use Rattle.std.specs.Prelude.{◌≡◌, ℕ, List, map, Result};
 ghost use Rattle.table.specs.Ids.{number as id-number};
-ghost use Rattle.compactions.specs.Counted.{items_of};
+ghost use Rattle.table.specs.Counted.{items_of};
 ghost use Rattle.compactions.specs.Meanings.{entry_of, run_of, sst_of};
 ghost use Rattle.compactions.specs.Trees.{Manifest};
 ghost use Rattle.executors.specs.Clocks.{readings_of};

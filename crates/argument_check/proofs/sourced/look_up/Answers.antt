@@ -1,7 +1,7 @@
 use Rattle.std.proofs.Common.{length, sym, ap, ◌∙◌, arith, length-append}
 use Rattle.std.specs.Option.{option_map}
-use Rattle.compactions.specs.Counted.{items_of}
-use Rattle.compactions.proofs.Pushes.{fitted}
+use Rattle.table.specs.Counted.{items_of}
+use Rattle.table.proofs.Pushes.{fitted}
 use Rattle.argument_check.proofs.Lookups.{ahead_none, look_past, look_missing, look_found, look_end}
 use Rattle.argument_check.proofs.sourced.look_up.Goals as goal
 use Rattle.argument_check.proofs.sourced.look_up.Goals.{in-Some+in_ok-row, in_default}
@@ -23,7 +23,7 @@ loop-source-preserved g c =
     elim c.match-asked_by.branch [
       | in-Some+in_ok-row w ↦
           let asks = sym c.asked_by.ensures ∙ ap (option_map g.R.Key.Key.value) w.in-Some.is in
-          let grown = fitted w.push.result (items_of c.loop-source.named) _ _ 1 8 w.push.ensures.value (omega (arith, c.requires, c.loop-source-test.true)) w.push.ensures.after in
+          let grown = fitted w.push.result (items_of c.loop-source.named) _ _ _ 8 w.push.ensures.value (omega (arith, c.requires, c.loop-source-test.true)) w.push.ensures.after in
           rw (w.named-is, grown) (
             simp length-append (omega arith),
             look_found _ _ _ _ _ _ _ _ c.loop-source.invariant.1 _ c.loop-source-test.true _ _ asks (sym w.in_ok-row.ensures),

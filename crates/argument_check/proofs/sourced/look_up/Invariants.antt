@@ -1,7 +1,7 @@
 use Rattle.std.proofs.Common.{◌≡◌, ◌≤◌, map, length, drop}
 use Rattle.argument_check.specs.Check.{found}
 use Rattle.argument_check.proofs.Lookups.{ahead}
-use Rattle.compactions.specs.Counted.{items_of}
+use Rattle.table.specs.Counted.{items_of}
 use Rattle.compactions.specs.Meanings.{source_of}
 use Rattle.argument_check.proofs.sourced.look_up.Given as goal
 

@@ -2,7 +2,7 @@ use Rattle.std.proofs.Common.{◌≤◌, ◌++◌, length, Err, ap, ◌∙◌, a
 use Rattle.std.proofs.lemmas.List.{take_rest}
 use Rattle.std.proofs.lemmas.Result.{err_from_is_err_and}
 use Rattle.std.proofs.lemmas.Bool.{ltb-false}
-use Rattle.compactions.specs.Counted.{items_of}
+use Rattle.table.specs.Counted.{items_of}
 use Rattle.paper_text.specs.Numbers.{pairs, held_bytes}
 use Rattle.paper_text.proofs.HexBytes.{push_refused, bytes_over, bytes_go, bytes_end}
 use Rattle.paper_text.proofs.segments.bytes_of.Goals as goal

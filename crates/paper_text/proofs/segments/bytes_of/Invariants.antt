@@ -1,5 +1,5 @@
 use Rattle.std.proofs.Common.{◌≡◌, ◌++◌, length}
-use Rattle.compactions.specs.Counted.{items_of}
+use Rattle.table.specs.Counted.{items_of}
 use Rattle.paper_text.specs.Numbers.{pairs}
 use Rattle.paper_text.proofs.segments.bytes_of.Given as goal
 

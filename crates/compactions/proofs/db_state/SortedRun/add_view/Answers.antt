@@ -6,6 +6,6 @@ pub returns : goal.returns
 returns c =
     let s = run_of c.args.self.now in
     record {
-      value = counted view_of _ _ 8 1 c.push.ensures.value;
+      value = counted view_of _ _ 8 _ c.push.ensures.value;
       after = pushed view_of (λ vs. record { id = s.id; views = vs }) _ _ _ _ c.push.ensures.after;
     }

@@ -6,6 +6,6 @@ pub returns : goal.returns
 returns c =
     let t = tree_of c.args.self.now in
     record {
-      value = counted run_of _ _ 8 2 c.push.ensures.value;
+      value = counted run_of _ _ 8 _ c.push.ensures.value;
       after = pushed run_of (λ rs. record { views = t.views; runs = rs }) _ _ _ _ c.push.ensures.after;
     }

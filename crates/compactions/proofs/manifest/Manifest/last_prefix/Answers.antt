@@ -1,5 +1,5 @@
 use Rattle.std.proofs.Common.{[], map, sym, ap, ◌∙◌}
-use Rattle.compactions.specs.Counted.{items_of}
+use Rattle.table.specs.Counted.{items_of}
 use Rattle.compactions.specs.Prefixes.{latest}
 use Rattle.compactions.specs.Meanings.{segment_of}
 use mathlib.Core.List.{map-map}

@@ -2,7 +2,7 @@ use Rattle.std.proofs.Common.{◌≡◌, ℕ, ◌+◌, ◌≤◌, true, List, []
 use Rattle.std.specs.List.{AllByRecursion}
 use Rattle.std.proofs.lemmas.List.{length-map, nil_from_length}
 use Rattle.table.specs.Tables.{holds}
-use Rattle.compactions.specs.Counted.{items_of}
+use Rattle.table.specs.Counted.{items_of}
 use Rattle.compactions.specs.Entries.{Entry}
 use Rattle.compactions.specs.Meanings.{entry_of}
 use Rattle.compactions.specs.Trees.{Manifest}

@@ -1,6 +1,6 @@
 use Rattle.std.proofs.Common.{◌≡◌, ◌<◌, ◌≤◌, [], ◌∷◌, length, sym, refl, ap, ◌∙◌, arith, length-append}
 use Rattle.std.proofs.lemmas.List.{length-map}
-use Rattle.compactions.specs.Counted.{items_of}
+use Rattle.table.specs.Counted.{items_of}
 use Rattle.compactions.specs.Meanings.{entry_of}
 use Rattle.worker.specs.Claims.{chosen_of}
 use Rattle.worker.specs.Meanings.{table_of}
@@ -14,7 +14,7 @@ returns-then-as_slice-capacity g c =
     let cs = c.args.chosen.now.entries in
     let len : length c.as_slice.result.now ≡ length (chosen_of c.args.chosen.now) = ap length c.as_slice.ensures ∙ sym (length-map (items_of cs) entry_of) in
     let room : length (chosen_of c.args.chosen.now) < c.args.capacity = omega (arith, c.if-as_slice-capacity.true, len) in
-    let more = pushed entry_of cs c.push.new.self c.args.entry.now c.push.result (omega (arith, room, c.requires.small)) c.push.ensures.value c.push.ensures.after in
+    let more = pushed entry_of cs c.push.new.self c.args.entry.now _ c.push.result (omega (arith, room, c.requires.small)) c.push.ensures.value c.push.ensures.after in
     record {
       walk = λ es. walk_chosen (entry_of c.args.entry.now) es (table_of w.owned.job_progress) (g.E.CompactionExecutor.jobs w.executor).list (sym c.if-not-is_unclaimed.ensures) (sym c.if-has_row.ensures) (chosen_of c.args.chosen.now) _ c.args.chosen.now.stopped c.args.capacity room more;
       held = refl;

@@ -1,5 +1,5 @@
 use Rattle.std.proofs.Common.{◌≡◌, map, take}
-use Rattle.compactions.specs.Counted.{items_of}
+use Rattle.table.specs.Counted.{items_of}
 use Rattle.compactions.specs.Meanings.{sst_of, view_of}
 use Rattle.worker.proofs.compaction_worker.completion.ssts_of.Given as goal
 

@@ -1,6 +1,6 @@
 -- What counted rows stand for.
 use Rattle.std.specs.Prelude.{ℕ, List, take}
-use Rattle.compactions.specs.declared.rows.Rows.{Rows}
+use Rattle.table.specs.declared.rows.Rows.{Rows}
 
 -- the items that count
 abbrev pub items_of : {T : Type 0} {N : ℕ} → Rows T N → List T

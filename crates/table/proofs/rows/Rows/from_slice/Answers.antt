@@ -1,8 +1,8 @@
 use Rattle.std.proofs.Common.{◌≡◌, ◌≤◌, true, leb, length, ap, ◌∙◌, arith, length-take, rules}
 use Rattle.std.proofs.lemmas.List.{take_more, take_all}
 use Rattle.std.proofs.lemmas.Bool.{le-leb}
-use Rattle.compactions.specs.Counted.{items_of}
-use Rattle.compactions.proofs.rows.Rows.from_slice.Goals as goal
+use Rattle.table.specs.Counted.{items_of}
+use Rattle.table.proofs.rows.Rows.from_slice.Goals as goal
 
 pub loop-item-preserved : goal.loop-item-preserved
 loop-item-preserved g c = search (rules, take_more)

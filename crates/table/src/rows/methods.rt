@@ -1,9 +1,8 @@
-ghost use Rattle.std.specs.Prelude.{◌≡◌, [], ◌∷◌, ◌++◌, length, is_ok, IfOk, if◌then◌else◌, nat_le, nat_lt, ⊤};
-ghost use Rattle.compactions.specs.Counted.{items_of};
-ghost use Rattle.compactions.specs.Refusals.{refused_with, number_of, unless};
+ghost use Rattle.std.specs.Prelude.{◌≡◌, [], ◌∷◌, ◌++◌, length, is_ok, Ok, Err, Some, None, IfOk, if◌then◌else◌, nat_le, nat_lt, ⊤};
+ghost use Rattle.std.specs.Result.{result_err};
+ghost use Rattle.table.specs.Counted.{items_of};
 
 use super::Rows;
-use crate::refusal::Refusal;
 use std::alloc::AllocError;
 
 // By hand, since a derive gives none of a generic struct with a ghost field.
@@ -28,9 +27,9 @@ impl<T: Copy, const N: usize> Rows<T, N> {
         }
     }
 
-    // All of the items, or the given refusal where there are more than N.
-    pub fn from_slice(items: &[T], blank: T, over: Refusal) -> Result<Rows<T, N>, Refusal>
-        ensures value { refused_with result ≡ unless (nat_le (length items.now) N) (number_of over) }
+    // All of the items, or the given error where there are more than N.
+    pub fn from_slice<E: Copy>(items: &[T], blank: T, over: E) -> Result<Rows<T, N>, E>
+        ensures value { result_err result ≡ (if nat_le (length items.now) N then None else Some over) }
         ensures made { IfOk result (λ rows. items_of rows ≡ items.now) }
     {
         let mut rows = Rows::new(blank);
@@ -47,9 +46,9 @@ impl<T: Copy, const N: usize> Rows<T, N> {
         &all[0..self.len]
     }
 
-    // One item more, or the given refusal where all places count already.
-    pub fn push(&mut self, item: T, full: Refusal) -> Result<(), Refusal>
-        ensures value { refused_with result ≡ unless (nat_lt (length (items_of self.old)) N) (number_of full) }
+    // One item more, or the given error where all places count already.
+    pub fn push<E: Copy>(&mut self, item: T, full: E) -> Result<(), E>
+        ensures value { result ≡ (if nat_lt (length (items_of self.old)) N then Ok tt else Err full) }
         ensures after { items_of self.new ≡ (if is_ok result then items_of self.old ++ (item ∷ []) else items_of self.old) }
     {
         if self.len == N {

@@ -1,8 +1,8 @@
 use Rattle.std.proofs.Common.{◌≡◌, true, ltb, length, arith, rules}
 use Rattle.std.proofs.lemmas.List.{take_more_set}
 use Rattle.std.proofs.lemmas.Bool.{lt-ltb}
-use Rattle.compactions.specs.Counted.{items_of}
-use Rattle.compactions.proofs.rows.Rows.push.Goals as goal
+use Rattle.table.specs.Counted.{items_of}
+use Rattle.table.proofs.rows.Rows.push.Goals as goal
 
 pub returns : goal.returns
 returns g c =
