@@ -1,4 +1,3 @@
 pub mod Entries
 pub mod Edits
-pub mod Coming
 pub mod Growth

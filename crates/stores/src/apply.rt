@@ -13,18 +13,9 @@ fn one_edit(current: Option<Compactions>, edit: Edit) -> Option<Compactions>
     ensures { option_map record_of result ≡ edited (edit_of edit) (option_map record_of current) }
 {
     match edit {
-        Edit::Create => match current {
-            None => Compactions::new(1),
-            Some(_) => current,
-        },
-        Edit::Put(entry) => match current {
-            None => None,
-            Some(record) => Some(record.with_put(entry)),
-        },
-        Edit::Remove(id) => match current {
-            None => None,
-            Some(record) => Some(record.with_removed(id)),
-        },
+        Edit::Create => current.or_else(|| Compactions::new(1)),
+        Edit::Put(entry) => current.map(|record| record.with_put(entry)),
+        Edit::Remove(id) => current.map(|record| record.with_removed(id)),
     }
 }
 
@@ -40,28 +31,19 @@ pub(crate) fn every_edit(current: Option<Compactions>, edits: &[Edit]) -> Option
 }
 
 // What an update that is not down does: the record that it leaves, and its answer.
-pub(crate) fn settle(
-    current: Option<Compactions>,
-    draft: Draft,
-) -> (Option<Compactions>, Result<Updated, StoreFault>)
-    ensures left { option_map record_of result.0 ≡ (replacing (draft_of draft) (option_map record_of current)).now }
-    ensures answer { update_answer_of result.1 ≡ (replacing (draft_of draft) (option_map record_of current)).answer }
+pub(crate) fn settle(current: &mut Option<Compactions>, draft: Draft) -> Result<Updated, StoreFault>
+    ensures left { option_map record_of current.new ≡ (replacing (draft_of draft) (option_map record_of current.old)).now }
+    ensures answer { update_answer_of result ≡ (replacing (draft_of draft) (option_map record_of current.old)).answer }
 {
     let handed_in = draft.into_record();
-    let Some(record) = current else {
-        return (None, Ok(Updated::Conflict));
-    };
-    if handed_in.version() != record.version() {
-        return (current, Ok(Updated::Conflict));
-    }
-    match handed_in.raised() {
-        Some(next) => (Some(next), Ok(Updated::Landed)),
-        None => {
-            let fault = StoreFault {
+    match current {
+        Some(record) if record.version() == handed_in.version() => {
+            *record = handed_in.raised().ok_or(StoreFault {
                 step: Step::Update,
                 cause: 0,
-            };
-            (current, Err(fault))
+            })?;
+            Ok(Updated::Landed)
         }
+        _ => Ok(Updated::Conflict),
     }
 }

@@ -8,21 +8,21 @@ ghost use Rattle.stores.specs.Meanings.{draft_of, read_answer_of, update_answer_
 
 use crate::draft::Draft;
 
-#[derive(Clone, Copy)]
+#[derive(Clone, Copy, PartialEq, Eq, Debug)]
 pub enum Step {
     Read,
     Update,
 }
 
 // A call that failed: which kind, and the store's cause.
-#[derive(Clone, Copy)]
+#[derive(Clone, Copy, PartialEq, Eq, Debug)]
 pub struct StoreFault {
     pub step: Step,
     pub cause: u32,
 }
 
 // What an update that did not fail came to.
-#[derive(Clone, Copy)]
+#[derive(Clone, Copy, PartialEq, Eq, Debug)]
 pub enum Updated {
     Landed,
     Conflict,

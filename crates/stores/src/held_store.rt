@@ -29,15 +29,10 @@ impl CompactionsStore for HeldStore {
     ghost meaning = { held_store_of };
 
     fn read(&mut self) -> Result<Option<Draft>, StoreFault> {
-        match self.current {
-            None => Ok(None),
-            Some(record) => Ok(Some(Draft::of(record))),
-        }
+        Ok(self.current.map(Draft::of))
     }
 
     fn update(&mut self, draft: Draft) -> Result<Updated, StoreFault> {
-        let (left, answer) = settle(self.current, draft);
-        self.current = left;
-        answer
+        settle(&mut self.current, draft)
     }
 }

@@ -11,16 +11,16 @@ pub enum Edit {
 }
 
 // A store that is down does nothing; a lost call acts, but its answer does not arrive.
-#[derive(Clone, Copy)]
+#[derive(Clone, Copy, PartialEq, Eq, Debug)]
 pub enum Outcome {
     Clear,
     Down(u32),
     Lost(u32),
 }
 
-// How many of the edits to come are made before the call, and how it goes.
+// The edits made before the call, and how it goes.
 #[derive(Clone, Copy)]
-pub struct Interference {
-    pub edits: usize,
+pub struct Interference<'a> {
+    pub edits: &'a [Edit],
     pub outcome: Outcome,
 }
