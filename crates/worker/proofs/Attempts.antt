@@ -12,7 +12,7 @@ use Rattle.worker_steps.specs.Looks.{held_after, on_read}
 use Rattle.worker_steps.specs.Claims.{walked, Claimed, none_chosen, landed_at, broken, broken_bare, claim_draft, list_if_faulted, claim_write, claim_chosen, claim_walk, claim_attempt}
 use Rattle.worker_steps.specs.declared.fault.During.{During}
 use Rattle.worker_steps.specs.declared.fault.Work.TheVariants as works
-use Rattle.worker.specs.Workers.{record_for}
+use Rattle.worker.specs.Reads.{record_for}
 use Rattle.worker.specs.Polls.{Counts, ClaimEnd, turn_end, turn_claimed, turn_left, counted_turn}
 use Rattle.table.specs.Tables.{Ascending, holds}
 use Rattle.stores.specs.Records.{entry_id}
@@ -20,6 +20,8 @@ use Rattle.worker_steps.specs.States.{self_id}
 use Rattle.worker_steps.specs.Tracking.{Tracked}
 use Rattle.worker_steps.specs.Owning.{runs_at, still_left}
 use Rattle.worker_steps.proofs.Filters.{kept_passes}
+use Rattle.worker_steps.proofs.Tracking.{relist, trim}
+use Rattle.worker_steps.proofs.Releasing.{still_shorter}
 use Rattle.worker_steps.proofs.Walks.{walk_so, all_found, chosen_tracked}
 
 -- what an attempt came to that sent an update
@@ -104,11 +106,17 @@ module _ (n room max : ℕ) (h h₁ h₂ : Held) (r : Record) (cs : List Entry) 
       let e : length h₂.table ≡ length (walked r.entries room h₁.table h₁.jobs).table = ap (λ x. length x.table) kept in
       omega (arith, fits₁, w.trimmed.size, e)
 
-  pub chosen_pending : length r.entries ≤ 32 → max ≤ 8 → Tracked max [] h₁.table h₁.left → Tracked max (map entry_id cs) h₂.table h₂.left
+  relisted : Tracked max [] h.table h.left → Tracked max [] h₁.table h₁.left
+  relisted b = rw looked (relist b _ (still_shorter n r.entries h.left b.left_ascending))
+
+  pub still_tracked : Tracked max [] h.table h.left → Tracked max [] h₂.table h₂.left
+  still_tracked b = rw kept (trim (relisted b) (walk_so r.entries r.entries room h₁.table h₁.jobs (all_found r.entries ascending)).trimmed)
+
+  pub chosen_pending : length r.entries ≤ 32 → max ≤ 8 → Tracked max [] h.table h.left → Tracked max (map entry_id cs) h₂.table h₂.left
   chosen_pending few small b =
       let left : h₁.left ≡ still_left n r.entries h.left = ap (λ x. x.left) looked in
       let runs : (i : ℕ) → holds self_id i h₁.left ≡ true → runs_at n r.entries i ≡ true = λ i z. kept_passes self_id (runs_at n r.entries) i h.left (sym (ap (λ l. holds self_id i l) left) ∙ z) in
-      let t = chosen_tracked n max room r.entries h₁.table h₁.left h₁.jobs ascending few small b runs fits₁ in
+      let t = chosen_tracked n max room r.entries h₁.table h₁.left h₁.jobs ascending few small (relisted b) runs fits₁ in
       rw (kept, chose) t
 
 -- the answer and the counts of an attempt that ended so

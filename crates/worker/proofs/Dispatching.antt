@@ -16,7 +16,6 @@ use Rattle.worker_steps.specs.Polls.{Dispatch, and_started, and_let_go, then_dis
 use Rattle.worker_steps.proofs.Tracking.{start_row, settle}
 use Rattle.worker_steps.proofs.Releasing.{Less, releasing_less, less_tracked}
 use Rattle.worker.specs.Polls.{Counts}
-use Rattle.std.proofs.lemmas.List.{length-map}
 use Rattle.stores.specs.Records.{entry_id}
 use Rattle.worker_steps.specs.Faults.{fault_of}
 use Rattle.worker.specs.declared.dispatch.Unreleased.{Unreleased}
@@ -116,7 +115,7 @@ pub record Dispatching (s : Settings) (m : Manifest) (whole : Readings → List 
   pub few : c.started + c.let_go + length ws ≤ 8
   pub frame : c ≡ record { claimed = c₀.claimed; started = c.started; let_go = c.let_go; left = 0; stopped = c₀.stopped }
 
-pub dispatching_none : (s : Settings) (m : Manifest) (max : ℕ) (ws : List Entry) (h : Held) (st : Store) (c : Counts) → max ≤ 8 → Tracked max (map entry_id ws) h.table h.left → c.started ≡ 0 → c.let_go ≡ 0 → c.left ≡ 0 → Dispatching s m (λ k ms. dispatching s m ws (state h st k ms)) max ws h st c c
+pub dispatching_none : (s : Settings) (m : Manifest) (max : ℕ) (ws : List Entry) (h : Held) (st : Store) (c : Counts) → length ws ≤ 8 → Tracked max (map entry_id ws) h.table h.left → c.started ≡ 0 → c.let_go ≡ 0 → c.left ≡ 0 → Dispatching s m (λ k ms. dispatching s m ws (state h st k ms)) max ws h st c c
 dispatching_none s m max ws h st c small b p q r = record {
   result = λ k ms.
       let d = (dispatching s m ws (state h st k ms)).result in
@@ -125,7 +124,7 @@ dispatching_none s m max ws h st c small b p q r = record {
       ap (λ n. record { fault = d.fault; started = n; let_go = c.let_go + d.let_go; left = d.left }) x ∙ ap (λ n. record { fault = d.fault; started = d.started; let_go = n; left = d.left }) y;
   after = λ k ms. refl;
   tracked = b;
-  few = omega (arith, p, q, b.room, length-map ws entry_id);
+  few = omega (arith, p, q, small);
   frame = ap (λ n. record { claimed = c.claimed; started = c.started; let_go = c.let_go; left = n; stopped = c.stopped }) r;
 }
 

@@ -12,7 +12,6 @@ use Rattle.worker_steps.specs.Tracking.{Tracked}
 use Rattle.worker_steps.proofs.Rows.{length_put, length-put_held}
 use Rattle.worker.specs.Meanings.{row_of, rows_in, table_of, ids_in, list_of}
 use Rattle.worker.specs.Tracks.{apart, tracks}
-use Rattle.worker.specs.declared.owned_jobs.OwnedJobs.{OwnedJobs}
 use Rattle.worker.specs.declared.job_progress.Progress.{Progress}
 use Rattle.worker.specs.declared.job_progress.JobProgress.{JobProgress}
 use Rattle.worker.specs.declared.left_behind.LeftBehind.{LeftBehind}
@@ -74,11 +73,8 @@ pub list_ascends : (l : LeftBehind) → Ascending self_id (list_of l)
 list_ascends l = ascending_from self_id (list_of l) (sym (ascends-map number self_id (ids_in l)) ∙ l.ascending)
 
 -- so they are tracked, with nothing pending
-pub tracked_jobs : (o : OwnedJobs) → Tracked o.maximum [] (table_of o.job_progress) (list_of o.left_behind)
-tracked_jobs o = tracks_elim o.maximum _ _ o.tracked (table_ascends o.job_progress) (list_ascends o.left_behind)
-
-pub small_jobs : (o : OwnedJobs) → o.maximum ≤ 8
-small_jobs o = tracks_small o.maximum _ _ o.tracked
+pub tracked_jobs : (max : ℕ) (t : JobProgress) (l : LeftBehind) → tracks max (table_of t) (list_of l) ≡ true → Tracked max [] (table_of t) (list_of l)
+tracked_jobs max t l e = tracks_elim max _ _ e (table_ascends t) (list_ascends l)
 
 -- a row struck
 pub row_struck : (t t' : JobProgress) (k : ℕ) → rows_in t' ≡ strike (λ p. (row_of p).id) k (rows_in t) → table_of t' ≡ strike row_id k (table_of t)

@@ -1,7 +1,8 @@
+pub mod Worker
 pub mod Meanings
 pub mod Tracks
 pub mod Owned
-pub mod Workers
+pub mod Reads
 pub mod Claims
 pub mod Polls
 pub mod Settling

@@ -1,5 +1,5 @@
 -- What the answers of a poll and of its parts mean.
-use Rattle.std.specs.Prelude.{ℕ, ◌+◌, Bool, true, false, List, map, length, Some, None, Ok, Err, Option, Result}
+use Rattle.std.specs.Prelude.{ℕ, ◌+◌, Bool, true, false, List, [], map, length, Some, None, Ok, Err, Option, Result}
 use Rattle.compactions.specs.Entries.{Entry}
 use Rattle.stores.specs.Records.{entry_id}
 use Rattle.worker_steps.specs.Faults.{Fault, fault_of}
@@ -88,11 +88,11 @@ counted_turn c t n = record { claimed = turn_claimed t; started = c.started; let
 abbrev pub counted_claim : Counts → steps.Claimed → ℕ → Counts
 counted_claim c x n = record { claimed = claim_count x; started = c.started; let_go = c.let_go; left = left_count x; stopped = n }
 
--- a landed claim is pending, beside the table and the list
+-- a landed claim is pending, beside the table and the list; after a conflict nothing is
 abbrev pub PendingTurn : ℕ → Held → Result ClaimTurn WorkerFault → Type 0
 PendingTurn max h (Ok NoneChosen) = Unit {0}
 PendingTurn max h (Ok (Landed c)) = Tracked max (map entry_id (waiting c)) h.table h.left
-PendingTurn max h (Ok Conflict) = Unit {0}
+PendingTurn max h (Ok Conflict) = Tracked max [] h.table h.left
 PendingTurn max h (Err f) = Unit {0}
 
 abbrev pub PendingClaim : ℕ → Held → Result (Option LandedClaims) WorkerFault → Type 0

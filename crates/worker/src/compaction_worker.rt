@@ -3,9 +3,9 @@
 // Reworked from src/compaction_worker.rs of slatedb 0.16.0 (Apache-2.0, see NOTICE); changed: no
 // tasks and tickers, a limit of attempts in place of endless retries, a list of the claims that a
 // fault left behind, and calls that answer what they did.
-ghost use Rattle.std.specs.Prelude.{◌≤◌};
-
 use crate::owned_jobs::OwnedJobs;
+use executors::compactor_executor::CompactionExecutor;
+use std::marker::Model;
 
 mod choice;
 mod claim;
@@ -18,12 +18,21 @@ mod reads;
 mod release;
 
 #[derive(Drop)]
-pub struct CompactionWorker<E> {
+pub struct CompactionWorker<E: CompactionExecutor> {
     number: u32,
     limit: u32,
     loaded: bool,
     owned: OwnedJobs,
     executor: E,
-    ghost least: { 1 ≤ limit },
-    ghost most: { limit ≤ 64 },
+}
+
+impl<E: CompactionExecutor> Model for CompactionWorker<E> {
+    ghost use Rattle.std.specs.Prelude.{◌≤◌};
+    ghost use Rattle.worker.specs.Worker.{Worker};
+
+    ghost Value = { Worker E };
+
+    ghost view = { λ w. record { settings = record { number = w.number; maximum = w.owned.maximum; limit = w.limit; places = E.places.count }; held = record { loaded = w.loaded; table = w.owned.table; left = w.owned.left; jobs = (E.jobs w.executor).list }; executor = w.executor } };
+
+    ghost invariant = { λ w. (1 ≤ w.limit) × ((w.limit ≤ 64) × (w.owned.maximum ≤ 8)) };
 }

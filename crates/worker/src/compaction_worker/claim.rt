@@ -1,17 +1,17 @@
 // A claim: attempts to make the chosen entries Running under the worker's number.
-ghost use Rattle.std.specs.Prelude.{◌≡◌, ℕ, ◌+◌, ◌-◌, ◌*◌, ◌≤◌, true, List, map, length, Result};
+ghost use Rattle.std.specs.Prelude.{◌≡◌, ℕ, ◌+◌, ◌-◌, ◌*◌, ◌≤◌, true, List, [], ◌∷◌, map, length, Result};
 ghost use Rattle.std.specs.List.{AllByRecursion};
-ghost use Rattle.table.specs.Tables.{holds};
+ghost use Rattle.table.specs.Ids.{number as id-number};
+ghost use Rattle.table.specs.Tables.{holds, put};
 ghost use Rattle.compactions.specs.Meanings.{entry_of};
 ghost use Rattle.compactions.specs.Trees.{Manifest};
 ghost use Rattle.executors.specs.Clocks.{readings_of};
 ghost use Rattle.stores.specs.Records.{entry_id};
 ghost use Rattle.stores.specs.Meanings.{draft_of};
-ghost use Rattle.worker_steps.specs.States.{with_left, state};
+ghost use Rattle.worker_steps.specs.States.{self_id, with_left, state};
 ghost use Rattle.worker_steps.specs.Tracking.{Tracked};
 ghost use Rattle.worker_steps.specs.Claims.{claimed_as, claim_draft, joined, claim_attempt, claiming};
 ghost use Rattle.worker.specs.Claims.{waiting};
-ghost use Rattle.worker.specs.Workers.{held_of, settings_of};
 ghost use Rattle.worker.specs.Polls.{counts_of, turn_of, turn_end, counted_turn, claim_of, claim_end, counted_claim, PendingTurn, PendingClaim};
 
 use super::CompactionWorker;
@@ -22,6 +22,7 @@ use executors::clock::ListClock;
 use executors::compactor_executor::CompactionExecutor;
 use stores::compactions_store::{CompactionsStore, Updated};
 use stores::draft::Draft;
+use table::ulid::Ulid;
 use worker_steps::fault::{During, Told, Work, WorkerFault};
 
 fn claimed_by(entry: &Compaction, worker: WorkerSpec) -> Compaction
@@ -44,14 +45,23 @@ fn mark_running(draft: &mut Draft, chosen: &[Compaction], worker: WorkerSpec)
 }
 
 impl<E: CompactionExecutor> CompactionWorker<E> {
+    // A pending id joins the left-behind list.
+    pub(super) fn leave(&mut self, id: Ulid)
+        requires { Tracked self.old.settings.maximum (id-number id ∷ []) self.old.held.table self.old.held.left }
+        ensures held { self.new.held ≡ with_left self.old.held (put self_id (id-number id) self.old.held.left) }
+        ensures settings { self.new.settings ≡ self.old.settings }
+    {
+        self.owned.leave(id);
+    }
+
     // Each claim that waits joins the left-behind list.
     pub(super) fn leave_all(&mut self, mut claims: Claims)
-        requires { Tracked self.old.owned.maximum (map entry_id (waiting claims)) (held_of (E.jobs self.old.executor).list self.old).table (held_of (E.jobs self.old.executor).list self.old).left }
-        ensures held { held_of (E.jobs self.new.executor).list self.new ≡ with_left (held_of (E.jobs self.old.executor).list self.old) (joined (waiting claims) (held_of (E.jobs self.old.executor).list self.old).left) }
-        ensures settings { settings_of E.places.count self.new ≡ settings_of E.places.count self.old }
+        requires { Tracked self.old.settings.maximum (map entry_id (waiting claims)) self.old.held.table self.old.held.left }
+        ensures held { self.new.held ≡ with_left self.old.held (joined (waiting claims) self.old.held.left) }
+        ensures settings { self.new.settings ≡ self.old.settings }
     {
         while let Some(claim) = claims.take() {
-            self.owned.leave(claim.spend());
+            self.leave(claim.spend());
         }
         claims.finish();
     }
@@ -67,15 +77,16 @@ impl<E: CompactionExecutor> CompactionWorker<E> {
         counts: &mut PollCounts,
     ) -> Result<ClaimTurn, WorkerFault>
         requires small { capacity ≤ 8 }
-        requires room { capacity + length (held_of (E.jobs self.old.executor).list self.old).table ≤ self.old.owned.maximum }
+        requires tracked { Tracked self.old.settings.maximum [] self.old.held.table self.old.held.left }
+        requires room { capacity + length self.old.held.table ≤ self.old.settings.maximum }
         requires few { (counts.old.stopped ≤ 32 * attempt) × (attempt ≤ 64) }
         requires fresh { (counts.old.claimed ≡ 0) × (counts.old.left ≡ 0) }
-        ensures answer { (ms : List (Result Manifest ℕ)) → turn_of attempt result ≡ turn_end (claim_attempt (settings_of E.places.count self.old) capacity attempt (state (held_of (E.jobs self.old.executor).list self.old) (S.meaning store.old) (readings_of clock.old) ms)).result }
-        ensures counts { (ms : List (Result Manifest ℕ)) → counts_of counts.new ≡ counted_turn (counts_of counts.old) (claim_attempt (settings_of E.places.count self.old) capacity attempt (state (held_of (E.jobs self.old.executor).list self.old) (S.meaning store.old) (readings_of clock.old) ms)).result (claim_attempt (settings_of E.places.count self.old) capacity attempt (state (held_of (E.jobs self.old.executor).list self.old) (S.meaning store.old) (readings_of clock.old) ms)).stopped }
-        ensures after { (ms : List (Result Manifest ℕ)) → state (held_of (E.jobs self.new.executor).list self.new) (S.meaning store.new) (readings_of clock.new) ms ≡ (claim_attempt (settings_of E.places.count self.old) capacity attempt (state (held_of (E.jobs self.old.executor).list self.old) (S.meaning store.old) (readings_of clock.old) ms)).state }
-        ensures settings { settings_of E.places.count self.new ≡ settings_of E.places.count self.old }
-        ensures pending { PendingTurn self.new.owned.maximum (held_of (E.jobs self.new.executor).list self.new) result }
-        ensures room { capacity + length (held_of (E.jobs self.new.executor).list self.new).table ≤ self.new.owned.maximum }
+        ensures answer { (ms : List (Result Manifest ℕ)) → turn_of attempt result ≡ turn_end (claim_attempt self.old.settings capacity attempt (state self.old.held (S.meaning store.old) (readings_of clock.old) ms)).result }
+        ensures counts { (ms : List (Result Manifest ℕ)) → counts_of counts.new ≡ counted_turn (counts_of counts.old) (claim_attempt self.old.settings capacity attempt (state self.old.held (S.meaning store.old) (readings_of clock.old) ms)).result (claim_attempt self.old.settings capacity attempt (state self.old.held (S.meaning store.old) (readings_of clock.old) ms)).stopped }
+        ensures after { (ms : List (Result Manifest ℕ)) → state self.new.held (S.meaning store.new) (readings_of clock.new) ms ≡ (claim_attempt self.old.settings capacity attempt (state self.old.held (S.meaning store.old) (readings_of clock.old) ms)).state }
+        ensures settings { self.new.settings ≡ self.old.settings }
+        ensures pending { PendingTurn self.new.settings.maximum self.new.held result }
+        ensures room { capacity + length self.new.held.table ≤ self.new.settings.maximum }
         ensures few { counts.new.stopped ≤ 32 * (attempt + 1) }
     {
         let during = During {
@@ -96,13 +107,11 @@ impl<E: CompactionExecutor> CompactionWorker<E> {
         mark_running(&mut draft, entries.as_slice(), worker);
         let count = entries.as_slice().len() as u32;
         match store.update(draft) {
-            Ok(updated) => match updated {
-                Updated::Landed => {
-                    counts.claimed = count;
-                    Ok(ClaimTurn::Landed(Claims::of(entries)))
-                }
-                Updated::Conflict => Ok(ClaimTurn::Conflict),
-            },
+            Ok(Updated::Landed) => {
+                counts.claimed = count;
+                Ok(ClaimTurn::Landed(Claims::of(entries)))
+            }
+            Ok(Updated::Conflict) => Ok(ClaimTurn::Conflict),
             Err(fault) => {
                 counts.claimed = count;
                 counts.left = count;
@@ -120,11 +129,11 @@ impl<E: CompactionExecutor> CompactionWorker<E> {
         counts: &mut PollCounts,
     ) -> Result<Option<LandedClaims>, WorkerFault>
         requires { (counts.old.claimed ≡ 0) × ((counts.old.left ≡ 0) × (counts.old.stopped ≡ 0)) }
-        ensures answer { (ms : List (Result Manifest ℕ)) → claim_of result ≡ claim_end (claiming (settings_of E.places.count self.old) (self.old.owned.maximum - length (held_of (E.jobs self.old.executor).list self.old).table) (state (held_of (E.jobs self.old.executor).list self.old) (S.meaning store.old) (readings_of clock.old) ms)).result }
-        ensures counts { (ms : List (Result Manifest ℕ)) → counts_of counts.new ≡ counted_claim (counts_of counts.old) (claiming (settings_of E.places.count self.old) (self.old.owned.maximum - length (held_of (E.jobs self.old.executor).list self.old).table) (state (held_of (E.jobs self.old.executor).list self.old) (S.meaning store.old) (readings_of clock.old) ms)).result (claiming (settings_of E.places.count self.old) (self.old.owned.maximum - length (held_of (E.jobs self.old.executor).list self.old).table) (state (held_of (E.jobs self.old.executor).list self.old) (S.meaning store.old) (readings_of clock.old) ms)).stopped }
-        ensures after { (ms : List (Result Manifest ℕ)) → state (held_of (E.jobs self.new.executor).list self.new) (S.meaning store.new) (readings_of clock.new) ms ≡ (claiming (settings_of E.places.count self.old) (self.old.owned.maximum - length (held_of (E.jobs self.old.executor).list self.old).table) (state (held_of (E.jobs self.old.executor).list self.old) (S.meaning store.old) (readings_of clock.old) ms)).state }
-        ensures settings { settings_of E.places.count self.new ≡ settings_of E.places.count self.old }
-        ensures pending { PendingClaim self.new.owned.maximum (held_of (E.jobs self.new.executor).list self.new) result }
+        ensures answer { (ms : List (Result Manifest ℕ)) → claim_of result ≡ claim_end (claiming self.old.settings (self.old.settings.maximum - length self.old.held.table) (state self.old.held (S.meaning store.old) (readings_of clock.old) ms)).result }
+        ensures counts { (ms : List (Result Manifest ℕ)) → counts_of counts.new ≡ counted_claim (counts_of counts.old) (claiming self.old.settings (self.old.settings.maximum - length self.old.held.table) (state self.old.held (S.meaning store.old) (readings_of clock.old) ms)).result (claiming self.old.settings (self.old.settings.maximum - length self.old.held.table) (state self.old.held (S.meaning store.old) (readings_of clock.old) ms)).stopped }
+        ensures after { (ms : List (Result Manifest ℕ)) → state self.new.held (S.meaning store.new) (readings_of clock.new) ms ≡ (claiming self.old.settings (self.old.settings.maximum - length self.old.held.table) (state self.old.held (S.meaning store.old) (readings_of clock.old) ms)).state }
+        ensures settings { self.new.settings ≡ self.old.settings }
+        ensures pending { PendingClaim self.new.settings.maximum self.new.held result }
     {
         let capacity = self.owned.capacity();
         let mut attempt = 1;

@@ -8,7 +8,6 @@ ghost use Rattle.executors.specs.Clocks.{readings_of};
 ghost use Rattle.worker_steps.specs.States.{state};
 ghost use Rattle.worker_steps.specs.Completions.{ssts, completed_as, completion_attempt, completing};
 ghost use Rattle.worker.specs.Settling.{settle_turn_of, settled_of};
-ghost use Rattle.worker.specs.Workers.{held_of, settings_of};
 
 use super::CompactionWorker;
 use crate::settling::{SettleTurn, Settled, hand_in, own_entry};
@@ -53,9 +52,9 @@ impl<E: CompactionExecutor> CompactionWorker<E> {
         run: &SortedRun,
         attempt: u32,
     ) -> Result<SettleTurn, WorkerFault>
-        ensures answer { (ms : List (Result Manifest ℕ)) → settle_turn_of result ≡ (completion_attempt (settings_of E.places.count self.old) (id-number id) (ssts (run_of run.now)) attempt (state (held_of (E.jobs self.old.executor).list self.old) (S.meaning store.old) (readings_of clock.old) ms)).result }
-        ensures after { (ms : List (Result Manifest ℕ)) → state (held_of (E.jobs self.new.executor).list self.new) (S.meaning store.new) (readings_of clock.new) ms ≡ (completion_attempt (settings_of E.places.count self.old) (id-number id) (ssts (run_of run.now)) attempt (state (held_of (E.jobs self.old.executor).list self.old) (S.meaning store.old) (readings_of clock.old) ms)).state }
-        ensures settings { settings_of E.places.count self.new ≡ settings_of E.places.count self.old }
+        ensures answer { (ms : List (Result Manifest ℕ)) → settle_turn_of result ≡ (completion_attempt self.old.settings (id-number id) (ssts (run_of run.now)) attempt (state self.old.held (S.meaning store.old) (readings_of clock.old) ms)).result }
+        ensures after { (ms : List (Result Manifest ℕ)) → state self.new.held (S.meaning store.new) (readings_of clock.new) ms ≡ (completion_attempt self.old.settings (id-number id) (ssts (run_of run.now)) attempt (state self.old.held (S.meaning store.old) (readings_of clock.old) ms)).state }
+        ensures settings { self.new.settings ≡ self.old.settings }
     {
         let during = During {
             work: Work::Completion,
@@ -81,10 +80,11 @@ impl<E: CompactionExecutor> CompactionWorker<E> {
         id: Ulid,
         run: &SortedRun,
     ) -> Result<Settled, WorkerFault>
-        ensures answer { (ms : List (Result Manifest ℕ)) → settled_of result ≡ (completing (settings_of E.places.count self.old) (id-number id) (ssts (run_of run.now)) (state (held_of (E.jobs self.old.executor).list self.old) (S.meaning store.old) (readings_of clock.old) ms)).result }
-        ensures after { (ms : List (Result Manifest ℕ)) → state (held_of (E.jobs self.new.executor).list self.new) (S.meaning store.new) (readings_of clock.new) ms ≡ (completing (settings_of E.places.count self.old) (id-number id) (ssts (run_of run.now)) (state (held_of (E.jobs self.old.executor).list self.old) (S.meaning store.old) (readings_of clock.old) ms)).state }
-        ensures settings { settings_of E.places.count self.new ≡ settings_of E.places.count self.old }
+        ensures answer { (ms : List (Result Manifest ℕ)) → settled_of result ≡ (completing self.old.settings (id-number id) (ssts (run_of run.now)) (state self.old.held (S.meaning store.old) (readings_of clock.old) ms)).result }
+        ensures after { (ms : List (Result Manifest ℕ)) → state self.new.held (S.meaning store.new) (readings_of clock.new) ms ≡ (completing self.old.settings (id-number id) (ssts (run_of run.now)) (state self.old.held (S.meaning store.old) (readings_of clock.old) ms)).state }
+        ensures settings { self.new.settings ≡ self.old.settings }
     {
+        let limit = self.limit;
         let mut attempt = 1;
         'attempts: loop {
             match self.attempt_completion(store, clock, id, run, attempt)? {
@@ -92,7 +92,7 @@ impl<E: CompactionExecutor> CompactionWorker<E> {
                 SettleTurn::Dropped => return Ok(Settled::Dropped),
                 SettleTurn::Conflict => {}
             }
-            if attempt >= self.limit {
+            if attempt >= limit {
                 return Err(WorkerFault::NotLanded(During {
                     work: Work::Completion,
                     id: Some(id),

@@ -11,7 +11,6 @@ ghost use Rattle.worker_steps.specs.Polls.{may_run, with_started, dispatching};
 ghost use Rattle.worker.specs.Claims.{waiting};
 ghost use Rattle.worker.specs.Dispatches.{given_back, SettleStep, dispatch_of};
 ghost use Rattle.worker.specs.Polls.{counts_of};
-ghost use Rattle.worker.specs.Workers.{held_of, settings_of};
 
 use super::CompactionWorker;
 use crate::claims::{Claim, Claims};
@@ -28,10 +27,10 @@ impl<E: CompactionExecutor> CompactionWorker<E> {
     // Starts a claimed entry and adds its row, if it passes the argument check and the executor says
     // yes; else the claim comes back.
     fn start(&mut self, claim: Claim, manifest: &Manifest) -> Result<(), Claim>
-        requires { Tracked self.old.owned.maximum ((entry_of claim.entry).id ∷ []) (held_of (E.jobs self.old.executor).list self.old).table (held_of (E.jobs self.old.executor).list self.old).left }
-        ensures answer { given_back result ≡ (if may_run E.places.count (job_args (entry_of claim.entry) (manifest_of manifest.now)) (E.jobs self.old.executor).list then None else Some (entry_of claim.entry)) }
-        ensures held { held_of (E.jobs self.new.executor).list self.new ≡ (if may_run E.places.count (job_args (entry_of claim.entry) (manifest_of manifest.now)) (E.jobs self.old.executor).list then with_started (entry_of claim.entry) (job_args (entry_of claim.entry) (manifest_of manifest.now)) (held_of (E.jobs self.old.executor).list self.old) else held_of (E.jobs self.old.executor).list self.old) }
-        ensures settings { settings_of E.places.count self.new ≡ settings_of E.places.count self.old }
+        requires { Tracked self.old.settings.maximum ((entry_of claim.entry).id ∷ []) self.old.held.table self.old.held.left }
+        ensures answer { given_back result ≡ (if may_run self.old.settings.places (job_args (entry_of claim.entry) (manifest_of manifest.now)) self.old.held.jobs then None else Some (entry_of claim.entry)) }
+        ensures held { self.new.held ≡ (if may_run self.old.settings.places (job_args (entry_of claim.entry) (manifest_of manifest.now)) self.old.held.jobs then with_started (entry_of claim.entry) (job_args (entry_of claim.entry) (manifest_of manifest.now)) self.old.held else self.old.held) }
+        ensures settings { self.new.settings ≡ self.old.settings }
     {
         let entry = *claim.entry();
         let Ok(args) = build_job_args(&entry, manifest) else {
@@ -55,10 +54,10 @@ impl<E: CompactionExecutor> CompactionWorker<E> {
         claim: Claim,
         counts: &mut PollCounts,
     ) -> Result<(), Unreleased>
-        requires pending { Tracked self.old.owned.maximum ((entry_of claim.entry).id ∷ []) (held_of (E.jobs self.old.executor).list self.old).table (held_of (E.jobs self.old.executor).list self.old).left }
+        requires pending { Tracked self.old.settings.maximum ((entry_of claim.entry).id ∷ []) self.old.held.table self.old.held.left }
         requires few { counts.old.started + counts.old.let_go ≤ 8 }
-        ensures step { SettleStep (settings_of E.places.count self.old) (manifest_of manifest.now) (entry_of claim.entry) result (held_of (E.jobs self.old.executor).list self.old) (S.meaning store.old) (counts_of counts.old) (held_of (E.jobs self.new.executor).list self.new) (S.meaning store.new) (counts_of counts.new) }
-        ensures settings { settings_of E.places.count self.new ≡ settings_of E.places.count self.old }
+        ensures step { SettleStep self.old.settings (manifest_of manifest.now) (entry_of claim.entry) result self.old.held (S.meaning store.old) (counts_of counts.old) self.new.held (S.meaning store.new) (counts_of counts.new) }
+        ensures settings { self.new.settings ≡ self.old.settings }
     {
         match self.start(claim, manifest) {
             Ok(()) => {
@@ -85,18 +84,18 @@ impl<E: CompactionExecutor> CompactionWorker<E> {
         mut claims: Claims,
         counts: &mut PollCounts,
     ) -> Result<(), WorkerFault>
-        requires pending { Tracked self.old.owned.maximum (map entry_id (waiting claims)) (held_of (E.jobs self.old.executor).list self.old).table (held_of (E.jobs self.old.executor).list self.old).left }
+        requires pending { Tracked self.old.settings.maximum (map entry_id (waiting claims)) self.old.held.table self.old.held.left }
         requires fresh { (counts.old.started ≡ 0) × ((counts.old.let_go ≡ 0) × (counts.old.left ≡ 0)) }
-        ensures answer { (k : Readings) (ms : List (Result ManifestMeaning ℕ)) → dispatch_of result (counts_of counts.new) ≡ (dispatching (settings_of E.places.count self.old) (manifest_of manifest.now) (waiting claims) (state (held_of (E.jobs self.old.executor).list self.old) (S.meaning store.old) k ms)).result }
-        ensures after { (k : Readings) (ms : List (Result ManifestMeaning ℕ)) → state (held_of (E.jobs self.new.executor).list self.new) (S.meaning store.new) k ms ≡ (dispatching (settings_of E.places.count self.old) (manifest_of manifest.now) (waiting claims) (state (held_of (E.jobs self.old.executor).list self.old) (S.meaning store.old) k ms)).state }
+        ensures answer { (k : Readings) (ms : List (Result ManifestMeaning ℕ)) → dispatch_of result (counts_of counts.new) ≡ (dispatching self.old.settings (manifest_of manifest.now) (waiting claims) (state self.old.held (S.meaning store.old) k ms)).result }
+        ensures after { (k : Readings) (ms : List (Result ManifestMeaning ℕ)) → state self.new.held (S.meaning store.new) k ms ≡ (dispatching self.old.settings (manifest_of manifest.now) (waiting claims) (state self.old.held (S.meaning store.old) k ms)).state }
         ensures claimed { (counts.new.claimed ≡ counts.old.claimed) × (counts.new.stopped ≡ counts.old.stopped) }
-        ensures settings { settings_of E.places.count self.new ≡ settings_of E.places.count self.old }
+        ensures settings { self.new.settings ≡ self.old.settings }
     {
         while let Some(claim) = claims.take() {
             if let Err(unreleased) = self.settle(store, manifest, claim, counts) {
                 let Unreleased { claim, fault } = unreleased;
                 counts.left = claims.count() + 1;
-                self.owned.leave(claim.spend());
+                self.leave(claim.spend());
                 self.leave_all(claims);
                 return Err(fault);
             }

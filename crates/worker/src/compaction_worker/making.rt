@@ -3,7 +3,6 @@ ghost use Rattle.std.specs.Prelude.{◌≡◌, map};
 ghost use Rattle.table.specs.Ids.{number as id-number};
 ghost use Rattle.worker.specs.Making.{settings_refused, making_refused, Made};
 ghost use Rattle.worker.specs.Meanings.{row_of};
-ghost use Rattle.worker.specs.Workers.{held_of};
 
 use super::CompactionWorker;
 use crate::job_progress::Progress;
@@ -50,27 +49,30 @@ impl<E: CompactionExecutor> CompactionWorker<E> {
 
     // Whether a record was found.
     pub fn is_loaded(&self) -> bool
-        ensures { result ≡ (held_of (E.jobs self.now.executor).list self.now).loaded }
+        ensures { result ≡ self.now.held.loaded }
     {
         self.loaded
     }
 
     // The job table, ascending by id.
     pub fn job_progress(&self) -> &[Progress]
-        ensures { map row_of result.now ≡ (held_of (E.jobs self.now.executor).list self.now).table }
+        ensures { map row_of result.now ≡ self.now.held.table }
     {
         self.owned.rows()
     }
 
     // The left-behind list, ascending.
     pub fn left_behind(&self) -> &[Ulid]
-        ensures { map id-number result.now ≡ (held_of (E.jobs self.now.executor).list self.now).left }
+        ensures { map id-number result.now ≡ self.now.held.left }
     {
         self.owned.listed()
     }
 
+    // The executor, whose places and running jobs are those of the worker.
     pub fn executor(&self) -> &E
-        ensures { result.now ≡ self.now.executor }
+        ensures value { result.now ≡ self.now.executor }
+        ensures places { self.now.settings.places ≡ E.places.count }
+        ensures jobs { self.now.held.jobs ≡ (E.jobs self.now.executor).list }
     {
         &self.executor
     }

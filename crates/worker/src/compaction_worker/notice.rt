@@ -11,7 +11,6 @@ ghost use Rattle.worker_steps.specs.States.{row_id, state};
 ghost use Rattle.worker_steps.specs.Notices.{noticed_by, settling, with_progress, handled};
 ghost use Rattle.worker.specs.Notices.{noticed_of, Noticing};
 ghost use Rattle.worker.specs.Settling.{settled_of};
-ghost use Rattle.worker.specs.Workers.{held_of, settings_of};
 
 use super::CompactionWorker;
 use crate::job_progress::Progress;
@@ -28,9 +27,9 @@ use worker_steps::fault::WorkerFault;
 impl<E: CompactionExecutor> CompactionWorker<E> {
     // Replaces the context of a job's row; says whether the job has one.
     fn record_progress(&mut self, id: Ulid, ctx: CompactionContext) -> bool
-        ensures value { result ≡ holds row_id (id-number id) (held_of (E.jobs self.old.executor).list self.old).table }
-        ensures held { held_of (E.jobs self.new.executor).list self.new ≡ (if result then with_progress (id-number id) (context_of ctx) (held_of (E.jobs self.old.executor).list self.old) else held_of (E.jobs self.old.executor).list self.old) }
-        ensures settings { settings_of E.places.count self.new ≡ settings_of E.places.count self.old }
+        ensures value { result ≡ holds row_id (id-number id) self.old.held.table }
+        ensures held { self.new.held ≡ (if result then with_progress (id-number id) (context_of ctx) self.old.held else self.old.held) }
+        ensures settings { self.new.settings ≡ self.old.settings }
     {
         self.owned.set_context(Progress { id, ctx: Some(ctx) })
     }
@@ -43,9 +42,9 @@ impl<E: CompactionExecutor> CompactionWorker<E> {
         id: Ulid,
         res: Result<SortedRun, u32>,
     ) -> Result<Settled, WorkerFault>
-        ensures answer { (ms : List (Result Manifest ℕ)) → settled_of result ≡ (settling (settings_of E.places.count self.old) (id-number id) (outcome_of res) (state (held_of (E.jobs self.old.executor).list self.old) (S.meaning store.old) (readings_of clock.old) ms)).result }
-        ensures after { (ms : List (Result Manifest ℕ)) → state (held_of (E.jobs self.new.executor).list self.new) (S.meaning store.new) (readings_of clock.new) ms ≡ (settling (settings_of E.places.count self.old) (id-number id) (outcome_of res) (state (held_of (E.jobs self.old.executor).list self.old) (S.meaning store.old) (readings_of clock.old) ms)).state }
-        ensures settings { settings_of E.places.count self.new ≡ settings_of E.places.count self.old }
+        ensures answer { (ms : List (Result Manifest ℕ)) → settled_of result ≡ (settling self.old.settings (id-number id) (outcome_of res) (state self.old.held (S.meaning store.old) (readings_of clock.old) ms)).result }
+        ensures after { (ms : List (Result Manifest ℕ)) → state self.new.held (S.meaning store.new) (readings_of clock.new) ms ≡ (settling self.old.settings (id-number id) (outcome_of res) (state self.old.held (S.meaning store.old) (readings_of clock.old) ms)).state }
+        ensures settings { self.new.settings ≡ self.old.settings }
     {
         match res {
             Ok(run) => self.write_compacted(store, clock, id, &run),
@@ -62,9 +61,9 @@ impl<E: CompactionExecutor> CompactionWorker<E> {
         id: Ulid,
         res: Result<SortedRun, u32>,
     ) -> Result<Settled, WorkerFault>
-        ensures answer { (ms : List (Result Manifest ℕ)) → noticed_by (settled_of result) ≡ (handled (settings_of E.places.count self.old) (finished (id-number id) (outcome_of res)) (state (held_of (E.jobs self.old.executor).list self.old) (S.meaning store.old) (readings_of clock.old) ms)).result }
-        ensures after { (ms : List (Result Manifest ℕ)) → state (held_of (E.jobs self.new.executor).list self.new) (S.meaning store.new) (readings_of clock.new) ms ≡ (handled (settings_of E.places.count self.old) (finished (id-number id) (outcome_of res)) (state (held_of (E.jobs self.old.executor).list self.old) (S.meaning store.old) (readings_of clock.old) ms)).state }
-        ensures settings { settings_of E.places.count self.new ≡ settings_of E.places.count self.old }
+        ensures answer { (ms : List (Result Manifest ℕ)) → noticed_by (settled_of result) ≡ (handled self.old.settings (finished (id-number id) (outcome_of res)) (state self.old.held (S.meaning store.old) (readings_of clock.old) ms)).result }
+        ensures after { (ms : List (Result Manifest ℕ)) → state self.new.held (S.meaning store.new) (readings_of clock.new) ms ≡ (handled self.old.settings (finished (id-number id) (outcome_of res)) (state self.old.held (S.meaning store.old) (readings_of clock.old) ms)).state }
+        ensures settings { self.new.settings ≡ self.old.settings }
     {
         if !self.owned.strike_row(id) {
             return Ok(Settled::Dropped);
@@ -72,7 +71,7 @@ impl<E: CompactionExecutor> CompactionWorker<E> {
         match self.settle_finished(store, clock, id, res) {
             Ok(settled) => Ok(settled),
             Err(fault) => {
-                self.owned.leave(id);
+                self.leave(id);
                 Err(fault)
             }
         }
@@ -84,9 +83,9 @@ impl<E: CompactionExecutor> CompactionWorker<E> {
         clock: &mut ListClock,
         message: WorkerMessage,
     ) -> NoticeAnswer
-        ensures answer { (ms : List (Result Manifest ℕ)) → noticed_of result ≡ (handled (settings_of E.places.count self.old) (notice_of message) (state (held_of (E.jobs self.old.executor).list self.old) (S.meaning store.old) (readings_of clock.old) ms)).result }
-        ensures after { (ms : List (Result Manifest ℕ)) → state (held_of (E.jobs self.new.executor).list self.new) (S.meaning store.new) (readings_of clock.new) ms ≡ (handled (settings_of E.places.count self.old) (notice_of message) (state (held_of (E.jobs self.old.executor).list self.old) (S.meaning store.old) (readings_of clock.old) ms)).state }
-        ensures settings { settings_of E.places.count self.new ≡ settings_of E.places.count self.old }
+        ensures answer { (ms : List (Result Manifest ℕ)) → noticed_of result ≡ (handled self.old.settings (notice_of message) (state self.old.held (S.meaning store.old) (readings_of clock.old) ms)).result }
+        ensures after { (ms : List (Result Manifest ℕ)) → state self.new.held (S.meaning store.new) (readings_of clock.new) ms ≡ (handled self.old.settings (notice_of message) (state self.old.held (S.meaning store.old) (readings_of clock.old) ms)).state }
+        ensures settings { self.new.settings ≡ self.old.settings }
     {
         match message {
             WorkerMessage::CompactionJobProgress { id, ctx } => {
@@ -114,8 +113,8 @@ impl<E: CompactionExecutor> CompactionWorker<E> {
         store: &mut S,
         clock: &mut ListClock,
     ) -> NoticeAnswer
-        ensures steps { Noticing (settings_of E.places.count self.old) (state (held_of (E.jobs self.old.executor).list self.old) (S.meaning store.old) (readings_of clock.old)) (noticed_of result) (state (held_of (E.jobs self.new.executor).list self.new) (S.meaning store.new) (readings_of clock.new)) }
-        ensures settings { settings_of E.places.count self.new ≡ settings_of E.places.count self.old }
+        ensures steps { Noticing self.old.settings (state self.old.held (S.meaning store.old) (readings_of clock.old)) (noticed_of result) (state self.new.held (S.meaning store.new) (readings_of clock.new)) }
+        ensures settings { self.new.settings ≡ self.old.settings }
     {
         match self.ensure_loaded(store) {
             Ok(loaded) => {

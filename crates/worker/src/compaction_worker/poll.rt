@@ -9,7 +9,6 @@ ghost use Rattle.worker_steps.specs.Polls.{dispatch_given, poll as poll-steps};
 ghost use Rattle.worker.specs.Claims.{waiting};
 ghost use Rattle.worker.specs.Dispatches.{dispatch_of};
 ghost use Rattle.worker.specs.Polls.{counts_of, poll_answer_by, poll_answer_of, works_ended};
-ghost use Rattle.worker.specs.Workers.{held_of, settings_of};
 
 use super::CompactionWorker;
 use crate::polls::{LandedClaims, PollAnswer, PollCounts, PollEnd};
@@ -28,12 +27,12 @@ impl<E: CompactionExecutor> CompactionWorker<E> {
         landed: LandedClaims,
         counts: &mut PollCounts,
     ) -> Result<(), WorkerFault>
-        requires pending { Tracked self.old.owned.maximum (map entry_id (waiting landed.claims)) (held_of (E.jobs self.old.executor).list self.old).table (held_of (E.jobs self.old.executor).list self.old).left }
+        requires pending { Tracked self.old.settings.maximum (map entry_id (waiting landed.claims)) self.old.held.table self.old.held.left }
         requires fresh { (counts.old.started ≡ 0) × ((counts.old.let_go ≡ 0) × (counts.old.left ≡ 0)) }
-        ensures answer { (k : Readings) → dispatch_of result (counts_of counts.new) ≡ (dispatch_given (settings_of E.places.count self.old) landed.attempt (given (answers_of manifests.old)) (waiting landed.claims) (state (held_of (E.jobs self.old.executor).list self.old) (S.meaning store.old) k (behind (answers_of manifests.old)))).result }
-        ensures after { (k : Readings) → state (held_of (E.jobs self.new.executor).list self.new) (S.meaning store.new) k (answers_of manifests.new) ≡ (dispatch_given (settings_of E.places.count self.old) landed.attempt (given (answers_of manifests.old)) (waiting landed.claims) (state (held_of (E.jobs self.old.executor).list self.old) (S.meaning store.old) k (behind (answers_of manifests.old)))).state }
+        ensures answer { (k : Readings) → dispatch_of result (counts_of counts.new) ≡ (dispatch_given self.old.settings landed.attempt (given (answers_of manifests.old)) (waiting landed.claims) (state self.old.held (S.meaning store.old) k (behind (answers_of manifests.old)))).result }
+        ensures after { (k : Readings) → state self.new.held (S.meaning store.new) k (answers_of manifests.new) ≡ (dispatch_given self.old.settings landed.attempt (given (answers_of manifests.old)) (waiting landed.claims) (state self.old.held (S.meaning store.old) k (behind (answers_of manifests.old)))).state }
         ensures claimed { (counts.new.claimed ≡ counts.old.claimed) × (counts.new.stopped ≡ counts.old.stopped) }
-        ensures settings { settings_of E.places.count self.new ≡ settings_of E.places.count self.old }
+        ensures settings { self.new.settings ≡ self.old.settings }
     {
         let LandedClaims { claims, attempt } = landed;
         match manifests.read() {
@@ -60,9 +59,9 @@ impl<E: CompactionExecutor> CompactionWorker<E> {
         counts: &mut PollCounts,
     ) -> Result<bool, WorkerFault>
         requires { counts_of counts.old ≡ record { claimed = 0; started = 0; let_go = 0; left = 0; stopped = 0 } }
-        ensures answer { poll_answer_by (works_ended result) (counts_of counts.new) ≡ (poll-steps (settings_of E.places.count self.old) (state (held_of (E.jobs self.old.executor).list self.old) (S.meaning store.old) (readings_of clock.old) (answers_of manifests.old))).result }
-        ensures after { state (held_of (E.jobs self.new.executor).list self.new) (S.meaning store.new) (readings_of clock.new) (answers_of manifests.new) ≡ (poll-steps (settings_of E.places.count self.old) (state (held_of (E.jobs self.old.executor).list self.old) (S.meaning store.old) (readings_of clock.old) (answers_of manifests.old))).state }
-        ensures settings { settings_of E.places.count self.new ≡ settings_of E.places.count self.old }
+        ensures answer { poll_answer_by (works_ended result) (counts_of counts.new) ≡ (poll-steps self.old.settings (state self.old.held (S.meaning store.old) (readings_of clock.old) (answers_of manifests.old))).result }
+        ensures after { state self.new.held (S.meaning store.new) (readings_of clock.new) (answers_of manifests.new) ≡ (poll-steps self.old.settings (state self.old.held (S.meaning store.old) (readings_of clock.old) (answers_of manifests.old))).state }
+        ensures settings { self.new.settings ≡ self.old.settings }
     {
         if !self.ensure_loaded(store)? {
             return Ok(false);
@@ -81,9 +80,9 @@ impl<E: CompactionExecutor> CompactionWorker<E> {
         clock: &mut ListClock,
         manifests: &mut ListManifests,
     ) -> PollAnswer
-        ensures answer { poll_answer_of result ≡ (poll-steps (settings_of E.places.count self.old) (state (held_of (E.jobs self.old.executor).list self.old) (S.meaning store.old) (readings_of clock.old) (answers_of manifests.old))).result }
-        ensures after { state (held_of (E.jobs self.new.executor).list self.new) (S.meaning store.new) (readings_of clock.new) (answers_of manifests.new) ≡ (poll-steps (settings_of E.places.count self.old) (state (held_of (E.jobs self.old.executor).list self.old) (S.meaning store.old) (readings_of clock.old) (answers_of manifests.old))).state }
-        ensures settings { settings_of E.places.count self.new ≡ settings_of E.places.count self.old }
+        ensures answer { poll_answer_of result ≡ (poll-steps self.old.settings (state self.old.held (S.meaning store.old) (readings_of clock.old) (answers_of manifests.old))).result }
+        ensures after { state self.new.held (S.meaning store.new) (readings_of clock.new) (answers_of manifests.new) ≡ (poll-steps self.old.settings (state self.old.held (S.meaning store.old) (readings_of clock.old) (answers_of manifests.old))).state }
+        ensures settings { self.new.settings ≡ self.old.settings }
     {
         let mut counts = PollCounts::new();
         let end = match self.poll_works(store, clock, manifests, &mut counts) {

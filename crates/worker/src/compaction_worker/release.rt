@@ -7,7 +7,6 @@ ghost use Rattle.executors.specs.Clocks.{Readings};
 ghost use Rattle.worker_steps.specs.States.{state};
 ghost use Rattle.worker_steps.specs.Releases.{released_as, release_attempt, releasing};
 ghost use Rattle.worker.specs.Settling.{settle_turn_of, settled_of};
-ghost use Rattle.worker.specs.Workers.{held_of, settings_of};
 
 use super::CompactionWorker;
 use crate::settling::{SettleTurn, Settled, hand_in, own_entry};
@@ -33,9 +32,9 @@ impl<E: CompactionExecutor> CompactionWorker<E> {
         id: Ulid,
         attempt: u32,
     ) -> Result<SettleTurn, WorkerFault>
-        ensures answer { (c : Readings) (ms : List (Result Manifest ℕ)) → settle_turn_of result ≡ (release_attempt (settings_of E.places.count self.old) (id-number id) attempt (state (held_of (E.jobs self.old.executor).list self.old) (S.meaning store.old) c ms)).result }
-        ensures after { (c : Readings) (ms : List (Result Manifest ℕ)) → state (held_of (E.jobs self.new.executor).list self.new) (S.meaning store.new) c ms ≡ (release_attempt (settings_of E.places.count self.old) (id-number id) attempt (state (held_of (E.jobs self.old.executor).list self.old) (S.meaning store.old) c ms)).state }
-        ensures settings { settings_of E.places.count self.new ≡ settings_of E.places.count self.old }
+        ensures answer { (c : Readings) (ms : List (Result Manifest ℕ)) → settle_turn_of result ≡ (release_attempt self.old.settings (id-number id) attempt (state self.old.held (S.meaning store.old) c ms)).result }
+        ensures after { (c : Readings) (ms : List (Result Manifest ℕ)) → state self.new.held (S.meaning store.new) c ms ≡ (release_attempt self.old.settings (id-number id) attempt (state self.old.held (S.meaning store.old) c ms)).state }
+        ensures settings { self.new.settings ≡ self.old.settings }
     {
         let during = During {
             work: Work::Release,
@@ -55,10 +54,11 @@ impl<E: CompactionExecutor> CompactionWorker<E> {
         store: &mut S,
         id: Ulid,
     ) -> Result<Settled, WorkerFault>
-        ensures answer { (c : Readings) (ms : List (Result Manifest ℕ)) → settled_of result ≡ (releasing (settings_of E.places.count self.old) (id-number id) (state (held_of (E.jobs self.old.executor).list self.old) (S.meaning store.old) c ms)).result }
-        ensures after { (c : Readings) (ms : List (Result Manifest ℕ)) → state (held_of (E.jobs self.new.executor).list self.new) (S.meaning store.new) c ms ≡ (releasing (settings_of E.places.count self.old) (id-number id) (state (held_of (E.jobs self.old.executor).list self.old) (S.meaning store.old) c ms)).state }
-        ensures settings { settings_of E.places.count self.new ≡ settings_of E.places.count self.old }
+        ensures answer { (c : Readings) (ms : List (Result Manifest ℕ)) → settled_of result ≡ (releasing self.old.settings (id-number id) (state self.old.held (S.meaning store.old) c ms)).result }
+        ensures after { (c : Readings) (ms : List (Result Manifest ℕ)) → state self.new.held (S.meaning store.new) c ms ≡ (releasing self.old.settings (id-number id) (state self.old.held (S.meaning store.old) c ms)).state }
+        ensures settings { self.new.settings ≡ self.old.settings }
     {
+        let limit = self.limit;
         let mut attempt = 1;
         'attempts: loop {
             match self.attempt_release(store, id, attempt)? {
@@ -66,7 +66,7 @@ impl<E: CompactionExecutor> CompactionWorker<E> {
                 SettleTurn::Dropped => return Ok(Settled::Dropped),
                 SettleTurn::Conflict => {}
             }
-            if attempt >= self.limit {
+            if attempt >= limit {
                 return Err(WorkerFault::NotLanded(During {
                     work: Work::Release,
                     id: Some(id),

@@ -1,12 +1,12 @@
-ghost use Rattle.std.specs.Prelude.{◌≡◌, ◌-◌, ◌≤◌, [], ◌∷◌, length, if◌then◌else◌};
+ghost use Rattle.std.specs.Prelude.{◌≡◌, ◌-◌, ◌≤◌, true, [], ◌∷◌, map, length, if◌then◌else◌};
 ghost use Rattle.table.specs.Ids.{number as id-number};
 ghost use Rattle.table.specs.Tables.{holds, put, strike};
 ghost use Rattle.stores.specs.Meanings.{draft_of};
 ghost use Rattle.worker_steps.specs.States.{row_id, self_id};
 ghost use Rattle.worker_steps.specs.Tracking.{Tracked};
 ghost use Rattle.worker_steps.specs.Owning.{still_left};
-ghost use Rattle.worker.specs.Meanings.{row_of, rows_in, ids_in};
-ghost use Rattle.worker.specs.Owned.{owned_of, with_table, with_list};
+ghost use Rattle.worker.specs.Meanings.{row_of};
+ghost use Rattle.worker.specs.Owned.{with_table, with_list};
 
 use super::OwnedJobs;
 use crate::job_progress::{JobProgress, Progress};
@@ -19,7 +19,7 @@ use table::ulid::Ulid;
 impl OwnedJobs {
     pub(crate) fn new(maximum: usize) -> OwnedJobs
         requires { maximum ≤ 8 }
-        ensures { owned_of result ≡ record { maximum = maximum; table = []; left = [] } }
+        ensures { result ≡ record { maximum = maximum; table = []; left = [] } }
     {
         OwnedJobs {
             maximum,
@@ -30,37 +30,39 @@ impl OwnedJobs {
 
     // How many more jobs may run.
     pub(crate) fn capacity(&self) -> usize
-        ensures { result ≡ (owned_of self.now).maximum - length (owned_of self.now).table }
+        ensures value { result ≡ self.now.maximum - length self.now.table }
+        ensures tracked { Tracked self.now.maximum [] self.now.table self.now.left }
     {
         self.maximum - self.job_progress.as_slice().len()
     }
 
     pub(crate) fn has_row(&self, id: Ulid) -> bool
-        ensures { result ≡ holds row_id (id-number id) (owned_of self.now).table }
+        ensures { result ≡ holds row_id (id-number id) self.now.table }
     {
         scan::find(self.job_progress.as_slice(), id).is_some()
     }
 
-    // Without the row of an id; says whether there was one.
+    // Without the row of an id, which is pending if there was one; says whether there was.
     pub(crate) fn strike_row(&mut self, id: Ulid) -> bool
-        ensures value { result ≡ holds row_id (id-number id) (owned_of self.old).table }
-        ensures after { owned_of self.new ≡ with_table (owned_of self.old) (strike row_id (id-number id) (owned_of self.old).table) }
+        ensures value { result ≡ holds row_id (id-number id) self.old.table }
+        ensures after { self.new ≡ with_table self.old (strike row_id (id-number id) self.old.table) }
+        ensures pending { result ≡ true → Tracked self.new.maximum (id-number id ∷ []) self.new.table self.new.left }
     {
         self.job_progress.strike(id)
     }
 
     // A row for a pending id.
     pub(crate) fn add_row(&mut self, row: Progress)
-        requires { Tracked (owned_of self.old).maximum ((row_of row).id ∷ []) (owned_of self.old).table (owned_of self.old).left }
-        ensures { owned_of self.new ≡ with_table (owned_of self.old) (put row_id (row_of row) (owned_of self.old).table) }
+        requires { Tracked self.old.maximum ((row_of row).id ∷ []) self.old.table self.old.left }
+        ensures { self.new ≡ with_table self.old (put row_id (row_of row) self.old.table) }
     {
         self.job_progress.put(row);
     }
 
     // A row's context, replaced; says whether there is such a row.
     pub(crate) fn set_context(&mut self, row: Progress) -> bool
-        ensures value { result ≡ holds row_id (row_of row).id (owned_of self.old).table }
-        ensures after { owned_of self.new ≡ (if result then with_table (owned_of self.old) (put row_id (row_of row) (owned_of self.old).table) else owned_of self.old) }
+        ensures value { result ≡ holds row_id (row_of row).id self.old.table }
+        ensures after { self.new ≡ (if result then with_table self.old (put row_id (row_of row) self.old.table) else self.old) }
     {
         if !self.has_row(row.id) {
             return false;
@@ -71,27 +73,27 @@ impl OwnedJobs {
 
     // A pending id joins the left-behind list.
     pub(crate) fn leave(&mut self, id: Ulid)
-        requires { Tracked (owned_of self.old).maximum (id-number id ∷ []) (owned_of self.old).table (owned_of self.old).left }
-        ensures { owned_of self.new ≡ with_list (owned_of self.old) (put self_id (id-number id) (owned_of self.old).left) }
+        requires { Tracked self.old.maximum (id-number id ∷ []) self.old.table self.old.left }
+        ensures { self.new ≡ with_list self.old (put self_id (id-number id) self.old.left) }
     {
         self.left_behind.put(id);
     }
 
     // Strikes the listed ids that have no entry Running under the number.
     pub(crate) fn keep_running(&mut self, draft: &Draft, number: u32)
-        ensures { owned_of self.new ≡ with_list (owned_of self.old) (still_left number (draft_of draft.now).entries (owned_of self.old).left) }
+        ensures { self.new ≡ with_list self.old (still_left number (draft_of draft.now).entries self.old.left) }
     {
         self.left_behind.keep_running(draft, number);
     }
 
     pub(crate) fn rows(&self) -> &[Progress]
-        ensures { result.now ≡ rows_in self.now.job_progress }
+        ensures { map row_of result.now ≡ self.now.table }
     {
         self.job_progress.as_slice()
     }
 
     pub(crate) fn listed(&self) -> &[Ulid]
-        ensures { result.now ≡ ids_in self.now.left_behind }
+        ensures { map id-number result.now ≡ self.now.left }
     {
         self.left_behind.as_slice()
     }

@@ -1,4 +1,4 @@
-use Rattle.std.proofs.Common.{◌≡◌, ℕ, ◌+◌, ◌≤◌, true, List, [], map, length, None, Ok, Result, sym, refl, ap, ◌∙◌, subst, arith, true-eqb, false-eqb}
+use Rattle.std.proofs.Common.{◌≡◌, ℕ, ◌+◌, ◌≤◌, true, List, [], map, length, None, Result, sym, refl, ap, ◌∙◌, subst, arith, true-eqb, false-eqb}
 use Rattle.std.specs.List.{AllByRecursion}
 use Rattle.std.proofs.lemmas.List.{length-map, nil_from_length}
 use Rattle.table.specs.Tables.{holds}
@@ -8,63 +8,65 @@ use Rattle.compactions.specs.Meanings.{entry_of}
 use Rattle.compactions.specs.Trees.{Manifest}
 use Rattle.executors.specs.Clocks.{readings_of}
 use Rattle.stores.specs.Records.{entry_id}
-use Rattle.stores.specs.Stores.{read, got, UpdateAnswer, landed, conflict, unwritten, update}
-use Rattle.stores.specs.Meanings.{draft_of, fault_of as store-fault-of, update_answer_of}
+use Rattle.stores.specs.Stores.{read, got, UpdateAnswer, unwritten, update}
+use Rattle.stores.specs.Meanings.{draft_of, fault_of as store-fault-of}
 use Rattle.worker_steps.specs.States.{with_left, state}
 use Rattle.worker_steps.specs.Tracking.{Tracked}
 use Rattle.worker_steps.specs.Looks.{held_after}
 use Rattle.worker_steps.specs.Faults.{fault, store_failed, claim}
-use Rattle.worker_steps.specs.Effects.{Effect, Turn, ends, again, on_update}
+use Rattle.worker_steps.specs.Effects.{Effect, Turn, ends, on_update}
 use Rattle.worker_steps.specs.Claims.{Claimed, none_chosen, landed_at, broken, walked, claim_draft, joined, list_if_faulted, claim_attempt}
 use Rattle.worker_steps.proofs.Walks.{chosen_held}
 use Rattle.worker.specs.Claims.{chosen_of}
-use Rattle.worker.specs.Polls.{turn_end, counted_turn, counts_of}
-use Rattle.worker.specs.Polls as polls
-use Rattle.worker.specs.Workers.{held_of, settings_of}
-use Rattle.worker.proofs.Attempts.{claim_during, was_record, attempt_none, still_room, chosen_pending, Sent, sent, answer_by, counts_by}
+use Rattle.worker.specs.Polls.{turn_end, counts_of}
+use Rattle.worker.specs.Worker.{Worker}
+use Rattle.worker.proofs.Attempts.{claim_during, was_record, attempt_none, still_room, still_tracked, chosen_pending, Sent, sent, answer_by, counts_by}
 use Rattle.worker.proofs.Drafts.{draft_ascends, draft_few}
-use Rattle.worker.proofs.Owned.{tracked_jobs, small_jobs}
 use Rattle.worker.proofs.compaction_worker.CompactionWorker.attempt_claim.Given as given
 use Rattle.worker.proofs.compaction_worker.CompactionWorker.attempt_claim.Goals as goal
 use Rattle.worker.proofs.compaction_worker.CompactionWorker.attempt_claim.Goals.{After-choose-stopped, After-update}
 
 -- the attempt, as it is defined
 abbrev attempt : (g : given.Over) (c : After-choose-stopped g) → List (Result Manifest ℕ) → Effect (Turn Claimed)
-attempt g c ms = claim_attempt (settings_of g.E.CompactionExecutor.places.count c.args.self.now) c.args.capacity c.args.attempt (state (held_of (g.E.CompactionExecutor.jobs c.args.self.now.executor).list c.args.self.now) (g.S.CompactionsStore.meaning c.args.store.now) (readings_of c.args.clock.now) ms)
+attempt g c ms = claim_attempt c.args.self.now.settings c.args.capacity c.args.attempt (state c.args.self.now.held (g.S.CompactionsStore.meaning c.args.store.now) (readings_of c.args.clock.now) ms)
 
 -- the record that the attempt read
 found : (g : given.Over) (c : After-choose-stopped g) → (read (g.S.CompactionsStore.meaning c.args.store.now)).answer ≡ got (draft_of c.in_ok-draft.draft)
 found g c = was_record (claim_during c.args.attempt) _ _ c.in_ok-draft.ensures.answer
 
 -- the settings stay
-same_settings : (g : given.Over) (c : After-choose-stopped g) → settings_of g.E.CompactionExecutor.places.count c.choose-stopped.new.self ≡ settings_of g.E.CompactionExecutor.places.count c.args.self.now
+same_settings : (g : given.Over) (c : After-choose-stopped g) → c.choose-stopped.new.self.settings ≡ c.args.self.now.settings
 same_settings g c = c.choose-stopped.ensures.settings ∙ c.read_for.ensures.settings
 
 -- what the worker held after the read, by the record
-looked_at : (g : given.Over) (c : After-choose-stopped g) → held_of (g.E.CompactionExecutor.jobs c.read_for.new.self.executor).list c.read_for.new.self ≡ held_after c.args.self.now.number (got (draft_of c.in_ok-draft.draft)) (held_of (g.E.CompactionExecutor.jobs c.args.self.now.executor).list c.args.self.now)
-looked_at g c = c.read_for.ensures.held ∙ ap (λ x. held_after c.args.self.now.number x (held_of (g.E.CompactionExecutor.jobs c.args.self.now.executor).list c.args.self.now)) (found g c)
+looked_at : (g : given.Over) (c : After-choose-stopped g) → c.read_for.new.self.held ≡ held_after c.args.self.now.settings.number (got (draft_of c.in_ok-draft.draft)) c.args.self.now.held
+looked_at g c = c.read_for.ensures.held ∙ ap (λ x. held_after c.args.self.now.settings.number x c.args.self.now.held) (found g c)
 
 -- the room is still there
-room_at : (g : given.Over) (c : After-choose-stopped g) → c.args.capacity + length (held_of (g.E.CompactionExecutor.jobs c.choose-stopped.new.self.executor).list c.choose-stopped.new.self).table ≤ c.choose-stopped.new.self.owned.maximum
+room_at : (g : given.Over) (c : After-choose-stopped g) → c.args.capacity + length c.choose-stopped.new.self.held.table ≤ c.choose-stopped.new.self.settings.maximum
 room_at g c =
-    subst (λ m. c.args.capacity + length (held_of (g.E.CompactionExecutor.jobs c.choose-stopped.new.self.executor).list c.choose-stopped.new.self).table ≤ m) (sym (ap (λ s. s.maximum) (same_settings g c)))
-    (still_room c.args.self.now.number c.args.capacity c.args.self.now.owned.maximum _ _ _ (draft_of c.in_ok-draft.draft) _ (looked_at g c) c.choose-stopped.ensures.chosen c.choose-stopped.ensures.held (draft_ascends c.in_ok-draft.draft) c.requires.room)
+    subst (λ m. c.args.capacity + length c.choose-stopped.new.self.held.table ≤ m) (sym (ap (λ s. s.maximum) (same_settings g c)))
+    (still_room c.args.self.now.settings.number c.args.capacity c.args.self.now.settings.maximum _ _ _ (draft_of c.in_ok-draft.draft) _ (looked_at g c) c.choose-stopped.ensures.chosen c.choose-stopped.ensures.held (draft_ascends c.in_ok-draft.draft) c.requires.room)
 
 -- the chosen are pending
-pending_at : (g : given.Over) (c : After-choose-stopped g) → Tracked c.choose-stopped.new.self.owned.maximum (map entry_id (chosen_of c.choose-stopped.result)) (held_of (g.E.CompactionExecutor.jobs c.choose-stopped.new.self.executor).list c.choose-stopped.new.self).table (held_of (g.E.CompactionExecutor.jobs c.choose-stopped.new.self.executor).list c.choose-stopped.new.self).left
-pending_at g c =
+pending_at : (g : given.Over) (c : After-choose-stopped g) → c.choose-stopped.new.self.settings.maximum ≤ 8 → Tracked c.choose-stopped.new.self.settings.maximum (map entry_id (chosen_of c.choose-stopped.result)) c.choose-stopped.new.self.held.table c.choose-stopped.new.self.held.left
+pending_at g c small =
     let d = c.in_ok-draft.draft in
-    let o = c.read_for.new.self.owned in
-    let m₁ : o.maximum ≡ c.args.self.now.owned.maximum = ap (λ s. s.maximum) c.read_for.ensures.settings in
-    let m₂ : c.choose-stopped.new.self.owned.maximum ≡ o.maximum = ap (λ s. s.maximum) c.choose-stopped.ensures.settings in
-    let fits : c.args.capacity + length (held_of (g.E.CompactionExecutor.jobs c.args.self.now.executor).list c.args.self.now).table ≤ o.maximum = omega (arith, m₁, c.requires.room) in
-    rw m₂ (chosen_pending c.args.self.now.number c.args.capacity o.maximum _ _ _ (draft_of d) _ (looked_at g c) c.choose-stopped.ensures.chosen c.choose-stopped.ensures.held (draft_ascends d) fits (draft_few d) (small_jobs o) (tracked_jobs o))
+    let m : c.choose-stopped.new.self.settings.maximum ≡ c.args.self.now.settings.maximum = ap (λ s. s.maximum) (same_settings g c) in
+    rw m (chosen_pending c.args.self.now.settings.number c.args.capacity c.args.self.now.settings.maximum _ _ _ (draft_of d) _ (looked_at g c) c.choose-stopped.ensures.chosen c.choose-stopped.ensures.held (draft_ascends d) c.requires.room (draft_few d) (rw m at small) c.requires.tracked)
+
+-- nothing is, after a conflict
+tracked_at : (g : given.Over) (c : After-choose-stopped g) → Tracked c.choose-stopped.new.self.settings.maximum [] c.choose-stopped.new.self.held.table c.choose-stopped.new.self.held.left
+tracked_at g c =
+    let d = c.in_ok-draft.draft in
+    let m : c.choose-stopped.new.self.settings.maximum ≡ c.args.self.now.settings.maximum = ap (λ s. s.maximum) (same_settings g c) in
+    rw m (still_tracked c.args.self.now.settings.number c.args.capacity c.args.self.now.settings.maximum _ _ _ (draft_of d) _ (looked_at g c) c.choose-stopped.ensures.chosen c.choose-stopped.ensures.held (draft_ascends d) c.requires.room c.requires.tracked)
 
 pub returns-then-is_empty : goal.returns-then-is_empty
 returns-then-is_empty g c =
     let b = (goal.at.returns-then-is_empty g c).After-choose-stopped in
     let none : chosen_of c.choose-stopped.result ≡ [] = ap (map entry_of) (sym c.as_slice.ensures ∙ nil_from_length _ (true-eqb _ 0 c.if-is_empty.ensures)) in
-    let e = λ (ms : List (Result Manifest ℕ)). attempt_none (settings_of g.E.CompactionExecutor.places.count c.args.self.now) c.args.capacity c.args.attempt (held_of (g.E.CompactionExecutor.jobs c.args.self.now.executor).list c.args.self.now) (g.S.CompactionsStore.meaning c.args.store.now) (readings_of c.args.clock.now) ms _ _ c.read_for.ensures.held c.read_for.ensures.store _ (found g b) _ _ _ c.choose-stopped.ensures.chosen c.choose-stopped.ensures.stopped c.choose-stopped.ensures.held none in
+    let e = λ (ms : List (Result Manifest ℕ)). attempt_none c.args.self.now.settings c.args.capacity c.args.attempt c.args.self.now.held (g.S.CompactionsStore.meaning c.args.store.now) (readings_of c.args.clock.now) ms _ _ c.read_for.ensures.held c.read_for.ensures.store _ (found g b) _ _ _ c.choose-stopped.ensures.chosen c.choose-stopped.ensures.stopped c.choose-stopped.ensures.held none in
     record {
       answer = λ ms. sym (ap (λ x. turn_end x.result) (e ms));
       counts = counts_by (attempt g b) (ends none_chosen) _ (λ ms. ap (λ x. x.result) (e ms)) (λ ms. ap (λ x. x.stopped) (e ms)) (counts_of c.args.counts.now) _ _ c.requires.fresh.0 c.requires.fresh.1;
@@ -76,7 +78,7 @@ returns-then-is_empty g c =
     }
 
 -- the entries that are marked are the chosen ones
-marked_are : (g : given.Over) (c : After-choose-stopped g) (xs : List _) → xs ≡ items_of c.choose-stopped.result.entries → map entry_of xs ≡ (walked (draft_of c.in_ok-draft.draft).entries c.args.capacity (held_of (g.E.CompactionExecutor.jobs c.read_for.new.self.executor).list c.read_for.new.self).table (g.E.CompactionExecutor.jobs c.read_for.new.self.executor).list).chosen
+marked_are : (g : given.Over) (c : After-choose-stopped g) (xs : List _) → xs ≡ items_of c.choose-stopped.result.entries → map entry_of xs ≡ (walked (draft_of c.in_ok-draft.draft).entries c.args.capacity c.read_for.new.self.held.table c.read_for.new.self.held.jobs).chosen
 marked_are g c xs e = ap (map entry_of) e ∙ c.choose-stopped.ensures.chosen
 
 pub mark_running-requires : goal.mark_running-requires
@@ -86,8 +88,12 @@ mark_running-requires g c =
     subst (λ (xs : List Entry). AllByRecursion (λ e. holds entry_id e.id (draft_of d).entries ≡ true) xs) (sym (marked_are g b _ c.as_slice-2.ensures))
     (chosen_held c.args.capacity (draft_of d).entries _ _ (draft_ascends d))
 
+-- the maximum is small
+small_at : (g : given.Over) (c : After-update g) → c.choose-stopped.new.self.settings.maximum ≤ 8
+small_at g c = rw (← c.self.view_is) c.self.invariant.1.1
+
 pub leave_all-requires : goal.leave_all-requires
-leave_all-requires g c = rw c.of-in-Err.ensures (pending_at g (goal.at.leave_all-requires g c).After-choose-stopped)
+leave_all-requires g c = rw c.of-in-Err.ensures (pending_at g (goal.at.leave_all-requires g c).After-choose-stopped (rw (← c.self.view_is) c.self.invariant.1.1))
 
 -- some were chosen
 some_chosen : (g : given.Over) (c : After-update g) → 0 ≡ length (chosen_of c.choose-stopped.result) → ⊥
@@ -98,50 +104,43 @@ how_many : (g : given.Over) (c : After-update g) → length c.as_slice-3.result.
 how_many g c = ap length c.as_slice-3.ensures ∙ sym (length-map (items_of c.choose-stopped.result.entries) entry_of)
 
 -- the draft that was handed in
-handed_in : (g : given.Over) (c : After-update g) → draft_of c.mark_running.new.draft ≡ claim_draft c.args.self.now.number c.stamp.result (chosen_of c.choose-stopped.result) (draft_of c.in_ok-draft.draft)
+handed_in : (g : given.Over) (c : After-update g) → draft_of c.mark_running.new.draft ≡ claim_draft c.args.self.now.settings.number c.stamp.result (chosen_of c.choose-stopped.result) (draft_of c.in_ok-draft.draft)
 handed_in g c =
     c.mark_running.ensures
-    ∙ ap (λ n. claim_draft n c.stamp.result (map entry_of c.as_slice-2.result.now) (draft_of c.in_ok-draft.draft)) (ap (λ s. s.number) (same_settings g (goal.at.After-update g c).After-choose-stopped))
-    ∙ ap (λ xs. claim_draft c.args.self.now.number c.stamp.result (map entry_of xs) (draft_of c.in_ok-draft.draft)) c.as_slice-2.ensures
+    ∙ ap (λ n. claim_draft n c.stamp.result (map entry_of c.as_slice-2.result.now) (draft_of c.in_ok-draft.draft)) (ap (λ (x : Worker _). x.settings.number) c.self.view_is ∙ ap (λ s. s.number) (same_settings g (goal.at.After-update g c).After-choose-stopped))
+    ∙ ap (λ xs. claim_draft c.args.self.now.settings.number c.stamp.result (map entry_of xs) (draft_of c.in_ok-draft.draft)) c.as_slice-2.ensures
 
 -- how the attempt goes by the answer to its update
 module _ (g : given.Over) (c : After-update g) (ua : UpdateAnswer) (answered : ua ≡ (update (draft_of c.mark_running.new.draft) (g.S.CompactionsStore.meaning c.read_for.new.store)).answer) (ms : List (Result Manifest ℕ)) where
   abbrev b : After-choose-stopped g
   b = (goal.at.After-update g c).After-choose-stopped
 
-  sent_at : Sent (attempt g b ms) (on_update ua (landed_at c.args.attempt (chosen_of c.choose-stopped.result)) (λ f. broken (fault (store_failed f) claim None c.args.attempt) (chosen_of c.choose-stopped.result))) (state (list_if_faulted ua (chosen_of c.choose-stopped.result) (held_of (g.E.CompactionExecutor.jobs c.choose-stopped.new.self.executor).list c.choose-stopped.new.self)) (g.S.CompactionsStore.meaning c.update.new.self) (readings_of c.stamp.new.self) ms) c.choose-stopped.result.stopped
-  sent_at = sent (settings_of g.E.CompactionExecutor.places.count c.args.self.now) c.args.capacity c.args.attempt (held_of (g.E.CompactionExecutor.jobs c.args.self.now.executor).list c.args.self.now) (g.S.CompactionsStore.meaning c.args.store.now) (readings_of c.args.clock.now) ms _ _ c.read_for.ensures.held c.read_for.ensures.store (draft_of c.in_ok-draft.draft) (found g b) _ _ _ c.choose-stopped.ensures.chosen c.choose-stopped.ensures.stopped c.choose-stopped.ensures.held (some_chosen g c) c.stamp.result _ _ ua _ c.stamp.ensures.value c.stamp.ensures.after (handed_in g c) answered c.update.ensures.after
+  sent_at : Sent (attempt g b ms) (on_update ua (landed_at c.args.attempt (chosen_of c.choose-stopped.result)) (λ f. broken (fault (store_failed f) claim None c.args.attempt) (chosen_of c.choose-stopped.result))) (state (list_if_faulted ua (chosen_of c.choose-stopped.result) c.choose-stopped.new.self.held) (g.S.CompactionsStore.meaning c.update.new.self) (readings_of c.stamp.new.self) ms) c.choose-stopped.result.stopped
+  sent_at = sent c.args.self.now.settings c.args.capacity c.args.attempt c.args.self.now.held (g.S.CompactionsStore.meaning c.args.store.now) (readings_of c.args.clock.now) ms _ _ c.read_for.ensures.held c.read_for.ensures.store (draft_of c.in_ok-draft.draft) (found g b) _ _ _ c.choose-stopped.ensures.chosen c.choose-stopped.ensures.stopped c.choose-stopped.ensures.held (some_chosen g c) c.stamp.result _ _ ua _ c.stamp.ensures.value c.stamp.ensures.after (handed_in g c) answered c.update.ensures.after
 
-pub returns-in-Landed : goal.returns-in-Landed
-returns-in-Landed g c =
-    let u = (goal.at.returns-in-Landed g c).After-update in
+pub returns-in-Ok-Landed-clause-pending : goal.returns-in-Ok-Landed-clause-pending
+returns-in-Ok-Landed-clause-pending g c =
+    let u = (goal.at.returns-in-Ok-Landed-clause-pending g c).After-update in
     let b = (goal.at.After-update g u).After-choose-stopped in
-    let cs = chosen_of c.choose-stopped.result in
-    let said = sym (ap (λ x. update_answer_of (Ok x)) c.in-Landed.is) ∙ c.in-Ok.ensures.answer in
-    record {
-      answer = answer_by (attempt g b) (ends (landed_at c.args.attempt cs)) _ (λ ms. (sent_at g u landed said ms).result) (λ ms. (sent_at g u landed said ms).stopped) _ (ap (polls.landed c.args.attempt) c.of.ensures);
-      counts = counts_by (attempt g b) (ends (landed_at c.args.attempt cs)) _ (λ ms. (sent_at g u landed said ms).result) (λ ms. (sent_at g u landed said ms).stopped) (counts_of c.args.counts.now) _ _ (how_many g u) c.requires.fresh.1;
-      after = λ ms. sym (sent_at g u landed said ms).state;
-      settings = same_settings g b;
-      pending = rw c.of.ensures (pending_at g b);
-      room = room_at g b;
-      few = omega (arith, c.requires.few.0, c.choose-stopped.ensures.few);
-    }
+    rw c.of.ensures (pending_at g b (small_at g u))
 
-pub returns-in-Conflict : goal.returns-in-Conflict
-returns-in-Conflict g c =
-    let u = (goal.at.returns-in-Conflict g c).After-update in
+pub returns-in-Ok-Landed-clause-room : goal.returns-in-Ok-Landed-clause-room
+returns-in-Ok-Landed-clause-room g c =
+    let u = (goal.at.returns-in-Ok-Landed-clause-room g c).After-update in
     let b = (goal.at.After-update g u).After-choose-stopped in
-    let said = sym (ap (λ x. update_answer_of (Ok x)) c.in-Conflict.is) ∙ c.in-Ok.ensures.answer in
-    record {
-      answer = answer_by (attempt g b) again _ (λ ms. (sent_at g u conflict said ms).result) (λ ms. (sent_at g u conflict said ms).stopped) _ refl;
-      counts = counts_by (attempt g b) again _ (λ ms. (sent_at g u conflict said ms).result) (λ ms. (sent_at g u conflict said ms).stopped) (counts_of c.args.counts.now) _ _ c.requires.fresh.0 c.requires.fresh.1;
-      after = λ ms. sym (sent_at g u conflict said ms).state;
-      settings = same_settings g b;
-      pending = tt;
-      room = room_at g b;
-      few = omega (arith, c.requires.few.0, c.choose-stopped.ensures.few);
-    }
+    room_at g b
+
+pub returns-in-Ok-Conflict-clause-pending : goal.returns-in-Ok-Conflict-clause-pending
+returns-in-Ok-Conflict-clause-pending g c =
+    let u = (goal.at.returns-in-Ok-Conflict-clause-pending g c).After-update in
+    let b = (goal.at.After-update g u).After-choose-stopped in
+    tracked_at g b
+
+pub returns-in-Ok-Conflict-clause-room : goal.returns-in-Ok-Conflict-clause-room
+returns-in-Ok-Conflict-clause-room g c =
+    let u = (goal.at.returns-in-Ok-Conflict-clause-room g c).After-update in
+    let b = (goal.at.After-update g u).After-choose-stopped in
+    room_at g b
 
 pub returns-in-Err : goal.returns-in-Err
 returns-in-Err g c =
@@ -150,7 +149,7 @@ returns-in-Err g c =
     let cs = chosen_of c.choose-stopped.result in
     let f = store-fault-of c.in-Err.fault in
     let said = c.in-Err.ensures.answer in
-    let h = held_of (g.E.CompactionExecutor.jobs c.choose-stopped.new.self.executor).list c.choose-stopped.new.self in
+    let h = c.choose-stopped.new.self.held in
     let kept = c.leave_all.ensures.held ∙ ap (λ es. with_left h (joined es h.left)) c.of-in-Err.ensures in
     let max = ap (λ s. s.maximum) c.leave_all.ensures.settings in
     let same = ap (λ h. length h.table) c.leave_all.ensures.held in

@@ -13,7 +13,7 @@ use Rattle.worker_steps.specs.declared.fault.Work.TheVariants as works
 use Rattle.worker_steps.specs.Effects.{on_update}
 use Rattle.worker_steps.specs.Releases.{written, stuck}
 use Rattle.worker.specs.Settling.{if_own}
-use Rattle.worker.specs.Workers.{held_of, settings_of}
+use Rattle.worker.specs.Worker.{Worker}
 use Rattle.worker.proofs.Attempts.{was_record}
 use Rattle.worker.proofs.OneEntry.{own_held, own_id, release_found}
 use Rattle.worker.proofs.compaction_worker.CompactionWorker.attempt_release.Given as given
@@ -21,8 +21,8 @@ use Rattle.worker.proofs.compaction_worker.CompactionWorker.attempt_release.Goal
 use Rattle.worker.proofs.compaction_worker.CompactionWorker.attempt_release.Goals.{In-Some}
 
 -- the entry is the worker's own
-own : (g : given.Over) (c : In-Some g) → Some (entry_of c.in-Some.existing) ≡ if_own c.args.self.now.number (lookup entry_id (number c.args.id) (draft_of c.in_ok-draft.draft).entries)
-own g c = c.in-Some.ensures ∙ ap (λ n. if_own n (lookup entry_id (number c.args.id) (draft_of c.in_ok-draft.draft).entries)) (ap (λ s. s.number) c.read_for.ensures.settings)
+own : (g : given.Over) (c : In-Some g) → Some (entry_of c.in-Some.existing) ≡ if_own c.args.self.now.settings.number (lookup entry_id (number c.args.id) (draft_of c.in_ok-draft.draft).entries)
+own g c = c.in-Some.ensures ∙ ap (λ n. if_own n (lookup entry_id (number c.args.id) (draft_of c.in_ok-draft.draft).entries)) (ap (λ (x : Worker _). x.settings.number) c.self.view_is ∙ ap (λ s. s.number) c.read_for.ensures.settings)
 
 pub hand_in-requires : goal.hand_in-requires
 hand_in-requires g c =
@@ -37,10 +37,10 @@ returns g c =
     let o = own g (goal.at.returns g c).In-Some in
     let r = draft_of c.in_ok-draft.draft in
     let st₁ = g.S.CompactionsStore.meaning c.read_for.new.store in
-    let e = λ (k : Readings) (ms : List (Result Manifest ℕ)). release_found (settings_of g.E.CompactionExecutor.places.count c.args.self.now) (number c.args.id) [] c.args.attempt (held_of (g.E.CompactionExecutor.jobs c.args.self.now.executor).list c.args.self.now) (g.S.CompactionsStore.meaning c.args.store.now) k ms _ st₁ c.read_for.ensures.held c.read_for.ensures.store r (was_record (record { work = works.Release; id = Some c.args.id; attempt = c.args.attempt }) _ _ c.in_ok-draft.ensures.answer) _ o in
+    let e = λ (k : Readings) (ms : List (Result Manifest ℕ)). release_found c.args.self.now.settings (number c.args.id) [] c.args.attempt c.args.self.now.held (g.S.CompactionsStore.meaning c.args.store.now) k ms _ st₁ c.read_for.ensures.held c.read_for.ensures.store r (was_record (record { work = works.Release; id = Some c.args.id; attempt = c.args.attempt }) _ _ c.in_ok-draft.ensures.answer) _ o in
     let put_in = ap (λ x. update (with_entries r (put entry_id x r.entries)) st₁) c.released.ensures in
     record {
       answer = λ k ms. c.hand_in.ensures.answer ∙ ap (λ u. on_update u.answer written (λ f. stuck (fault (store_failed f) release (Some (number c.args.id)) c.args.attempt))) put_in ∙ sym (ap (λ x. x.result) (e k ms));
-      after = λ k ms. ap (λ u. state (held_of (g.E.CompactionExecutor.jobs c.read_for.new.self.executor).list c.read_for.new.self) u k ms) (c.hand_in.ensures.after ∙ ap (λ u. u.after) put_in) ∙ sym (ap (λ x. x.state) (e k ms));
+      after = λ k ms. ap (λ u. state c.read_for.new.self.held u k ms) (c.hand_in.ensures.after ∙ ap (λ u. u.after) put_in) ∙ sym (ap (λ x. x.state) (e k ms));
       settings = c.read_for.ensures.settings;
     }

@@ -3,7 +3,6 @@ use Rattle.std.proofs.lemmas.List.{length-map, drop_all}
 use Rattle.compactions.specs.Meanings.{entry_of}
 use Rattle.stores.specs.Meanings.{draft_of}
 use Rattle.worker.specs.Claims.{chosen_of}
-use Rattle.worker.specs.Workers.{held_of}
 use Rattle.worker.proofs.Coming.{coming}
 use Rattle.worker.proofs.Walks.{Walking, walking_none, walking_more, walked_chosen, walked_stopped, walked_held}
 use Rattle.worker.proofs.compaction_worker.CompactionWorker.choose.Given as given
@@ -26,7 +25,7 @@ loop-entry-preserved g c =
     (walking_more _ _ _ (rw (at_hand g (goal.at.loop-entry-preserved g c).After-entry-item) at c.loop-entry.invariant.0) c.visit.ensures.walk c.visit.ensures.held c.visit.ensures.stopped c.visit.ensures.within, c.visit.ensures.settings ∙ c.loop-entry.invariant.1)
 
 -- the walk at its end
-at_end : (g : given.Over) (c : After-loop-entry g) → Walking c.args.capacity (draft_of c.args.draft.now).entries (held_of (g.E.CompactionExecutor.jobs c.args.self.now.executor).list c.args.self.now) (chosen_of c.loop-entry.chosen) c.loop-entry.chosen.stopped [] (held_of (g.E.CompactionExecutor.jobs c.loop-entry.self.executor).list c.loop-entry.self)
+at_end : (g : given.Over) (c : After-loop-entry g) → Walking c.args.capacity (draft_of c.args.draft.now).entries c.args.self.now.held (chosen_of c.loop-entry.chosen) c.loop-entry.chosen.stopped [] c.loop-entry.self.held
 at_end g c =
     rw (ap (map entry_of) (drop_all c.loop-entry.entry-index c.entries-entry-items.result.now c.loop-entry-test.false), c.entries-entry-items.ensures.value) at c.loop-entry.invariant.0
 

@@ -7,19 +7,16 @@ use Rattle.worker_steps.specs.Tracking.{Tracked}
 use Rattle.worker_steps.specs.Claims.{joined}
 use Rattle.worker_steps.proofs.Tracking.{only_first}
 use Rattle.worker.specs.Claims.{waiting}
-use Rattle.worker.specs.Owned.{owned_of}
 use Rattle.worker.specs.Polls.{counts_of}
-use Rattle.worker.specs.Workers.{held_of}
-use Rattle.worker.proofs.Coming.{taken_first}
+use Rattle.worker.proofs.Coming.{taken_first, few_wait}
 use Rattle.worker.proofs.Leaving.{left_tracked}
 use Rattle.worker.proofs.Dispatching.{dispatching_none, dispatching_more, stuck_pending, dispatched_stuck, dispatched_stuck_after}
-use Rattle.worker.proofs.Owned.{small_jobs}
 use Rattle.worker.proofs.compaction_worker.CompactionWorker.dispatch.Given as given
 use Rattle.worker.proofs.compaction_worker.CompactionWorker.dispatch.Goals as goal
 use Rattle.worker.proofs.compaction_worker.CompactionWorker.dispatch.Goals.{After-settle, In-Err}
 
 pub loop-claim-init : goal.loop-claim-init
-loop-claim-init g c = (dispatching_none _ _ _ _ _ _ (counts_of c.args.counts.now) (small_jobs c.args.self.now.owned) c.requires.pending c.requires.fresh.0 c.requires.fresh.1.0 c.requires.fresh.1.1, refl)
+loop-claim-init g c = (dispatching_none _ _ _ _ _ _ (counts_of c.args.counts.now) (few_wait c.args.claims) c.requires.pending c.requires.fresh.0 c.requires.fresh.1.0 c.requires.fresh.1.1, refl)
 
 -- the claim that was taken, before those that wait
 first : (g : given.Over) (c : After-settle g) → waiting c.loop-claim.claims ≡ entry_of c.in-Some.claim.entry ∷ waiting c.take.new.self
@@ -28,16 +25,16 @@ first g c = taken_first _ _ _ c.in-Some.ensures.first c.in-Some.ensures.after
 pub loop-claim-preserved : goal.loop-claim-preserved
 loop-claim-preserved g c =
     let b = (goal.at.loop-claim-preserved g c).After-settle in
-    let max : c.settle.new.self.owned.maximum ≡ c.loop-claim.self.owned.maximum = ap (λ s. s.maximum) c.settle.ensures.settings in (
+    let max : c.settle.new.self.settings.maximum ≡ c.loop-claim.self.settings.maximum = ap (λ s. s.maximum) c.settle.ensures.settings in (
       rw max (dispatching_more (entry_of c.in-Some.claim.entry) _ _ _ _ _ c.loop-claim.invariant.0 (first g b) c.loop-claim.invariant.1 c.in_default-settle.ensures.step),
       c.settle.ensures.settings ∙ c.loop-claim.invariant.1,
     )
 
 -- the claim that came back, and those that wait, are pending
-pending_at : (g : given.Over) (c : In-Err g) → Tracked c.settle.new.self.owned.maximum ((entry_of c.in-Some.claim.entry).id ∷ map entry_id (waiting c.take.new.self)) (held_of (g.E.CompactionExecutor.jobs c.settle.new.self.executor).list c.settle.new.self).table (held_of (g.E.CompactionExecutor.jobs c.settle.new.self.executor).list c.settle.new.self).left
+pending_at : (g : given.Over) (c : In-Err g) → Tracked c.settle.new.self.settings.maximum ((entry_of c.in-Some.claim.entry).id ∷ map entry_id (waiting c.take.new.self)) c.settle.new.self.held.table c.settle.new.self.held.left
 pending_at g c =
     let b = (goal.at.In-Err g c).After-settle in
-    let max : c.settle.new.self.owned.maximum ≡ c.loop-claim.self.owned.maximum = ap (λ s. s.maximum) c.settle.ensures.settings in
+    let max : c.settle.new.self.settings.maximum ≡ c.loop-claim.self.settings.maximum = ap (λ s. s.maximum) c.settle.ensures.settings in
     rw max (stuck_pending (entry_of c.in-Some.claim.entry) _ _ _ _ _ _ c.loop-claim.invariant.0 (first g b) c.loop-claim.invariant.1 c.in-Err.ensures.step)
 
 pub leave-requires : goal.leave-requires
@@ -50,7 +47,8 @@ pub leave_all-requires : goal.leave_all-requires
 leave_all-requires g c =
     let b = (goal.at.leave_all-requires g c).In-Err in
     let i = c.spend.ensures ∙ ap (λ e. e.id) c.in-Err.ensures.step.back in
-    left_tracked (owned_of c.settle.new.self.owned) (owned_of c.leave.new.self) (entry_of c.in-Some.claim.entry) _ _ _ refl i c.leave.ensures (pending_at g b)
+    let max = ap (λ s. s.maximum) c.leave.ensures.settings in
+    rw max (left_tracked c.settle.new.self.held c.leave.new.self.held (entry_of c.in-Some.claim.entry) _ _ _ refl i c.leave.ensures.held (pending_at g b))
 
 pub returns-in-Err : goal.returns-in-Err
 returns-in-Err g c =
@@ -59,17 +57,14 @@ returns-in-Err g c =
     let e = entry_of c.in-Some.claim.entry in
     let es = waiting c.take.new.self in
     let one = c.in-Err.ensures.step in
-    let w = c.settle.new.self in
-    let h = held_of (g.E.CompactionExecutor.jobs w.executor).list w in
+    let h = c.settle.new.self.held in
     let st = g.S.CompactionsStore.meaning c.settle.new.store in
     let i = c.spend.ensures ∙ ap (λ x. x.id) one.back in
-    let left = ap (λ o. o.left) c.leave.ensures ∙ ap (λ j. put self_id j h.left) i in
-    let table = ap (λ o. o.table) c.leave.ensures in
-    let held = c.leave_all.ensures.held ∙ ap (λ t. record { loaded = w.loaded; table = t; left = joined es (owned_of c.leave.new.self).left; jobs = h.jobs }) table ∙ ap (λ l. with_left h (joined es l)) left in
+    let held = c.leave_all.ensures.held ∙ ap (λ x. with_left x (joined es x.left)) (c.leave.ensures.held ∙ ap (λ j. with_left h (put self_id j h.left)) i) in
     let frame = c.loop-claim.invariant.0.frame in
     record {
       answer = dispatched_stuck e es _ _ _ _ _ c.loop-claim.invariant.0 (first g a) c.loop-claim.invariant.1 one _ (ap (λ n. n + 1) c.count.ensures);
       after = λ k ms. ap (λ x. state x st k ms) held ∙ dispatched_stuck_after e es _ _ _ _ _ c.loop-claim.invariant.0 (first g a) c.loop-claim.invariant.1 one k ms;
       claimed = (ap (λ x. x.claimed) (one.counts ∙ frame), ap (λ x. x.stopped) (one.counts ∙ frame));
-      settings = c.leave_all.ensures.settings ∙ ap (λ n. record { number = w.number; maximum = n; limit = w.limit; places = g.E.CompactionExecutor.places.count }) (ap (λ o. o.maximum) c.leave.ensures) ∙ c.settle.ensures.settings ∙ c.loop-claim.invariant.1;
+      settings = c.leave_all.ensures.settings ∙ c.leave.ensures.settings ∙ c.settle.ensures.settings ∙ c.loop-claim.invariant.1;
     }

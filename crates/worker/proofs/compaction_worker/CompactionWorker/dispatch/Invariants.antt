@@ -4,19 +4,17 @@ use Rattle.worker_steps.specs.States.{state}
 use Rattle.worker_steps.specs.Polls.{dispatching}
 use Rattle.worker.specs.Claims.{waiting}
 use Rattle.worker.specs.Polls.{counts_of}
-use Rattle.worker.specs.Workers.{held_of, settings_of}
 use Rattle.worker.proofs.Dispatching.{Dispatching}
 use Rattle.worker.proofs.compaction_worker.CompactionWorker.dispatch.Given as goal
 
 abbrev pub invariant-loop-claim : goal.invariant-loop-claim
 invariant-loop-claim g l =
-    let e = g.E.CompactionExecutor in
     let m = g.S.CompactionsStore in
-    let s = settings_of e.places.count l.initial.self in
-    let h₀ = held_of (e.jobs l.initial.self.executor).list l.initial.self in
-    let h = held_of (e.jobs l.self.executor).list l.self in
-    Dispatching s (manifest_of l.manifest) (λ k ms. dispatching s (manifest_of l.manifest) (waiting l.initial.claims) (state h₀ (m.meaning l.initial.store) k ms)) l.self.owned.maximum (waiting l.claims) h (m.meaning l.store) (counts_of l.initial.counts) (counts_of l.counts)
-    × (settings_of e.places.count l.self ≡ s)
+    let s = l.initial.self.settings in
+    let h₀ = l.initial.self.held in
+    let h = l.self.held in
+    Dispatching s (manifest_of l.manifest) (λ k ms. dispatching s (manifest_of l.manifest) (waiting l.initial.claims) (state h₀ (m.meaning l.initial.store) k ms)) l.self.settings.maximum (waiting l.claims) h (m.meaning l.store) (counts_of l.initial.counts) (counts_of l.counts)
+    × (l.self.settings ≡ s)
 
 abbrev pub decreases-loop-claim : goal.decreases-loop-claim
 decreases-loop-claim g l = length (waiting l.claims)

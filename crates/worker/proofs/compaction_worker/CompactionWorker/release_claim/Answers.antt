@@ -8,21 +8,21 @@ use Rattle.worker_steps.specs.States.{state}
 use Rattle.worker_steps.specs.Releases.{written, dropped, stuck, release_attempt}
 use Rattle.worker_steps.proofs.Retries.{trying_none, tried, tried_all, tried_once}
 use Rattle.worker.specs.Settling.{settle_turn_of}
-use Rattle.worker.specs.Workers.{held_of, settings_of}
+use Rattle.worker.specs.Worker.{Worker}
 use Rattle.worker.proofs.compaction_worker.CompactionWorker.release_claim.Given as given
 use Rattle.worker.proofs.compaction_worker.CompactionWorker.release_claim.Goals as goal
 use Rattle.worker.proofs.compaction_worker.CompactionWorker.release_claim.Goals.{After-attempt_release}
 
 pub attempts-init : goal.attempts-init
-attempts-init g c = (trying_none _ _ _ _ c.args.self.now.least, refl)
+attempts-init g c = (trying_none _ _ _ _ (rw (← c.self.view_is) c.self.invariant.0), refl)
 
 -- what the attempt left, by the settings of the whole work
-left_at : (g : given.Over) (c : After-attempt_release g) (p : Readings × List (Result Manifest ℕ)) → state (held_of (g.E.CompactionExecutor.jobs c.attempt_release.new.self.executor).list c.attempt_release.new.self) (g.S.CompactionsStore.meaning c.attempt_release.new.store) p.0 p.1 ≡ (release_attempt (settings_of g.E.CompactionExecutor.places.count c.args.self.now) (number c.args.id) c.attempts.attempt (state (held_of (g.E.CompactionExecutor.jobs c.attempts.self.executor).list c.attempts.self) (g.S.CompactionsStore.meaning c.attempts.store) p.0 p.1)).state
-left_at g c p = c.attempt_release.ensures.after p.0 p.1 ∙ ap (λ s. (release_attempt s (number c.args.id) c.attempts.attempt (state (held_of (g.E.CompactionExecutor.jobs c.attempts.self.executor).list c.attempts.self) (g.S.CompactionsStore.meaning c.attempts.store) p.0 p.1)).state) c.attempts.invariant.1
+left_at : (g : given.Over) (c : After-attempt_release g) (p : Readings × List (Result Manifest ℕ)) → state c.attempt_release.new.self.held (g.S.CompactionsStore.meaning c.attempt_release.new.store) p.0 p.1 ≡ (release_attempt c.args.self.now.settings (number c.args.id) c.attempts.attempt (state c.attempts.self.held (g.S.CompactionsStore.meaning c.attempts.store) p.0 p.1)).state
+left_at g c p = c.attempt_release.ensures.after p.0 p.1 ∙ ap (λ s. (release_attempt s (number c.args.id) c.attempts.attempt (state c.attempts.self.held (g.S.CompactionsStore.meaning c.attempts.store) p.0 p.1)).state) c.attempts.invariant.1
 
 -- and what it answered
-said_at : (g : given.Over) (c : After-attempt_release g) (p : Readings × List (Result Manifest ℕ)) → settle_turn_of c.attempt_release.result ≡ (release_attempt (settings_of g.E.CompactionExecutor.places.count c.args.self.now) (number c.args.id) c.attempts.attempt (state (held_of (g.E.CompactionExecutor.jobs c.attempts.self.executor).list c.attempts.self) (g.S.CompactionsStore.meaning c.attempts.store) p.0 p.1)).result
-said_at g c p = c.attempt_release.ensures.answer p.0 p.1 ∙ ap (λ s. (release_attempt s (number c.args.id) c.attempts.attempt (state (held_of (g.E.CompactionExecutor.jobs c.attempts.self.executor).list c.attempts.self) (g.S.CompactionsStore.meaning c.attempts.store) p.0 p.1)).result) c.attempts.invariant.1
+said_at : (g : given.Over) (c : After-attempt_release g) (p : Readings × List (Result Manifest ℕ)) → settle_turn_of c.attempt_release.result ≡ (release_attempt c.args.self.now.settings (number c.args.id) c.attempts.attempt (state c.attempts.self.held (g.S.CompactionsStore.meaning c.attempts.store) p.0 p.1)).result
+said_at g c p = c.attempt_release.ensures.answer p.0 p.1 ∙ ap (λ s. (release_attempt s (number c.args.id) c.attempts.attempt (state c.attempts.self.held (g.S.CompactionsStore.meaning c.attempts.store) p.0 p.1)).result) c.attempts.invariant.1
 
 pub returns-in_err-attempt_release : goal.returns-in_err-attempt_release
 returns-in_err-attempt_release g c =
@@ -46,22 +46,19 @@ returns-in-Dropped g c =
     let z = λ (k : Readings) (ms : List (Result Manifest ℕ)). tried c.attempts.invariant.0 _ (left_at g b) dropped (λ p. sym was ∙ said_at g b p) (k, ms) in
     record { answer = λ k ms. (z k ms).0; after = λ k ms. (z k ms).1; settings = c.attempt_release.ensures.settings ∙ c.attempts.invariant.1 }
 
-pub returns-then-attempt-self : goal.returns-then-attempt-self
-returns-then-attempt-self g c =
-    let b = (goal.at.returns-then-attempt-self g c).After-attempt_release in
+pub returns-then-attempt-limit : goal.returns-then-attempt-limit
+returns-then-attempt-limit g c =
+    let b = (goal.at.returns-then-attempt-limit g c).After-attempt_release in
     let was = ap settle_turn_of (c.in_ok-attempt_release.was ∙ ap Ok c.in-Conflict.is) in
-    let limits = ap (λ s. s.limit) (c.attempt_release.ensures.settings ∙ c.attempts.invariant.1) in
-    let last : c.args.self.now.limit ≤ c.attempts.attempt = omega (arith, c.if-attempt-self.true, limits) in
-    let at : c.attempts.attempt ≡ c.args.self.now.limit = omega (arith, last, c.attempts.invariant.0.within) in
+    let limits = ap (λ (x : Worker _). x.settings.limit) c.self.view_is in
+    let last : c.args.self.now.settings.limit ≤ c.attempts.attempt = omega (arith, c.if-attempt-limit.true, limits) in
+    let at : c.attempts.attempt ≡ c.args.self.now.settings.limit = omega (arith, last, c.attempts.invariant.0.within) in
     let z = λ (k : Readings) (ms : List (Result Manifest ℕ)). tried_all c.attempts.invariant.0 _ (left_at g b) (λ p. sym was ∙ said_at g b p) last (k, ms) in
     record { answer = λ k ms. ap (λ a. stuck (fault not_landed release (Some (number c.args.id)) a)) at ∙ (z k ms).0; after = λ k ms. (z k ms).1; settings = c.attempt_release.ensures.settings ∙ c.attempts.invariant.1 }
-
-pub attempts-smaller : goal.attempts-smaller
-attempts-smaller g c = let limits = ap (λ s. s.limit) c.attempt_release.ensures.settings in omega (arith, limits, c.if-attempt-self.false)
 
 pub attempts-preserved : goal.attempts-preserved
 attempts-preserved g c =
     let b = (goal.at.attempts-preserved g c).After-attempt_release in
     let was = ap settle_turn_of (c.in_ok-attempt_release.was ∙ ap Ok c.in-Conflict.is) in
-    let limits = ap (λ s. s.limit) (c.attempt_release.ensures.settings ∙ c.attempts.invariant.1) in
-    (tried_once c.attempts.invariant.0 _ (left_at g b) (λ p. sym was ∙ said_at g b p) (omega (arith, limits, c.if-attempt-self.false)), c.attempt_release.ensures.settings ∙ c.attempts.invariant.1)
+    let limits = ap (λ (x : Worker _). x.settings.limit) c.self.view_is in
+    (tried_once c.attempts.invariant.0 _ (left_at g b) (λ p. sym was ∙ said_at g b p) (omega (arith, limits, c.if-attempt-limit.false)), c.attempt_release.ensures.settings ∙ c.attempts.invariant.1)

@@ -11,7 +11,6 @@ use Rattle.worker_steps.specs.Releases.{releasing, stuck}
 use Rattle.worker_steps.specs.Polls.{may_run, with_started}
 use Rattle.worker.specs.Polls.{counts_of}
 use Rattle.worker.specs.Settling.{settled_of}
-use Rattle.worker.specs.Workers.{held_of, settings_of}
 use Rattle.worker.specs.declared.settling.Settled.{Settled}
 use Rattle.worker.specs.declared.settling.Settled.TheVariants.{Written, Dropped}
 use Rattle.worker.proofs.Dispatching.{started_result, started_after, started_tracked, let_go_result, let_go_after, released_tracked, stuck_result, stuck_after}
@@ -40,10 +39,10 @@ some_clock = record { ahead = []; last = pos 0 }
 
 pub returns-in-Ok : goal.returns-in-Ok
 returns-in-Ok g c =
-    let s = settings_of g.E.CompactionExecutor.places.count c.args.self.now in
+    let s = c.args.self.now.settings in
     let m = manifest_of c.args.manifest.now in
     let e = entry_of c.args.claim.entry in
-    let h = held_of (g.E.CompactionExecutor.jobs c.args.self.now.executor).list c.args.self.now in
+    let h = c.args.self.now.held in
     let st = g.S.CompactionsStore.meaning c.args.store.now in
     let yes' = kept_none (may_run s.places (job_args e m) h.jobs) e c.in-Ok.ensures.answer in
     let held = c.in-Ok.ensures.held ∙ ap (λ b. cond b (with_started e (job_args e m) h) h) yes' in
@@ -59,36 +58,36 @@ returns-in-Ok g c =
     }
 
 module _ (g : given.Over) (c : After-release_claim g) where
-  refused : (may_run g.E.CompactionExecutor.places.count (job_args (entry_of c.args.claim.entry) (manifest_of c.args.manifest.now)) (g.E.CompactionExecutor.jobs c.args.self.now.executor).list ≡ false) × (entry_of c.in-Err.claim.entry ≡ entry_of c.args.claim.entry)
+  refused : (may_run c.args.self.now.settings.places (job_args (entry_of c.args.claim.entry) (manifest_of c.args.manifest.now)) c.args.self.now.held.jobs ≡ false) × (entry_of c.in-Err.claim.entry ≡ entry_of c.args.claim.entry)
   refused = came_back _ _ _ c.in-Err.ensures.answer
 
-  same_held : held_of (g.E.CompactionExecutor.jobs c.start.new.self.executor).list c.start.new.self ≡ held_of (g.E.CompactionExecutor.jobs c.args.self.now.executor).list c.args.self.now
-  same_held = c.in-Err.ensures.held ∙ ap (λ b. cond b (with_started (entry_of c.args.claim.entry) (job_args (entry_of c.args.claim.entry) (manifest_of c.args.manifest.now)) (held_of (g.E.CompactionExecutor.jobs c.args.self.now.executor).list c.args.self.now)) (held_of (g.E.CompactionExecutor.jobs c.args.self.now.executor).list c.args.self.now)) refused.0
+  same_held : c.start.new.self.held ≡ c.args.self.now.held
+  same_held = c.in-Err.ensures.held ∙ ap (λ b. cond b (with_started (entry_of c.args.claim.entry) (job_args (entry_of c.args.claim.entry) (manifest_of c.args.manifest.now)) c.args.self.now.held) c.args.self.now.held) refused.0
 
   same_id : number c.entry.result.now.id ≡ (entry_of c.args.claim.entry).id
   same_id = ap (λ x. number x.id) c.entry.ensures ∙ ap (λ x. x.id) refused.1
 
   -- the release was that of this entry, from this state
   module _ (k : Readings) (ms : List (Result Manifest ℕ)) where
-    whole : releasing (settings_of g.E.CompactionExecutor.places.count c.start.new.self) (number c.entry.result.now.id) (state (held_of (g.E.CompactionExecutor.jobs c.start.new.self.executor).list c.start.new.self) (g.S.CompactionsStore.meaning c.args.store.now) k ms) ≡ releasing (settings_of g.E.CompactionExecutor.places.count c.args.self.now) (entry_of c.args.claim.entry).id (state (held_of (g.E.CompactionExecutor.jobs c.args.self.now.executor).list c.args.self.now) (g.S.CompactionsStore.meaning c.args.store.now) k ms)
+    whole : releasing c.start.new.self.settings (number c.entry.result.now.id) (state c.start.new.self.held (g.S.CompactionsStore.meaning c.args.store.now) k ms) ≡ releasing c.args.self.now.settings (entry_of c.args.claim.entry).id (state c.args.self.now.held (g.S.CompactionsStore.meaning c.args.store.now) k ms)
     whole =
-        ap (λ s. releasing s (number c.entry.result.now.id) (state (held_of (g.E.CompactionExecutor.jobs c.start.new.self.executor).list c.start.new.self) (g.S.CompactionsStore.meaning c.args.store.now) k ms)) c.start.ensures.settings
-        ∙ ap (λ i. releasing (settings_of g.E.CompactionExecutor.places.count c.args.self.now) i (state (held_of (g.E.CompactionExecutor.jobs c.start.new.self.executor).list c.start.new.self) (g.S.CompactionsStore.meaning c.args.store.now) k ms)) same_id
-        ∙ ap (λ h. releasing (settings_of g.E.CompactionExecutor.places.count c.args.self.now) (entry_of c.args.claim.entry).id (state h (g.S.CompactionsStore.meaning c.args.store.now) k ms)) same_held
+        ap (λ s. releasing s (number c.entry.result.now.id) (state c.start.new.self.held (g.S.CompactionsStore.meaning c.args.store.now) k ms)) c.start.ensures.settings
+        ∙ ap (λ i. releasing c.args.self.now.settings i (state c.start.new.self.held (g.S.CompactionsStore.meaning c.args.store.now) k ms)) same_id
+        ∙ ap (λ h. releasing c.args.self.now.settings (entry_of c.args.claim.entry).id (state h (g.S.CompactionsStore.meaning c.args.store.now) k ms)) same_held
 
-    answered : settled_of c.release_claim.result ≡ (releasing (settings_of g.E.CompactionExecutor.places.count c.args.self.now) (entry_of c.args.claim.entry).id (state (held_of (g.E.CompactionExecutor.jobs c.args.self.now.executor).list c.args.self.now) (g.S.CompactionsStore.meaning c.args.store.now) k ms)).result
+    answered : settled_of c.release_claim.result ≡ (releasing c.args.self.now.settings (entry_of c.args.claim.entry).id (state c.args.self.now.held (g.S.CompactionsStore.meaning c.args.store.now) k ms)).result
     answered = c.release_claim.ensures.answer k ms ∙ ap (λ x. x.result) whole
 
-    left_at : state (held_of (g.E.CompactionExecutor.jobs c.release_claim.new.self.executor).list c.release_claim.new.self) (g.S.CompactionsStore.meaning c.release_claim.new.store) k ms ≡ (releasing (settings_of g.E.CompactionExecutor.places.count c.args.self.now) (entry_of c.args.claim.entry).id (state (held_of (g.E.CompactionExecutor.jobs c.args.self.now.executor).list c.args.self.now) (g.S.CompactionsStore.meaning c.args.store.now) k ms)).state
+    left_at : state c.release_claim.new.self.held (g.S.CompactionsStore.meaning c.release_claim.new.store) k ms ≡ (releasing c.args.self.now.settings (entry_of c.args.claim.entry).id (state c.args.self.now.held (g.S.CompactionsStore.meaning c.args.store.now) k ms)).state
     left_at = c.release_claim.ensures.after k ms ∙ ap (λ x. x.state) whole
 
 pub returns-in-Ok-release_claim : goal.returns-in-Ok-release_claim
 returns-in-Ok-release_claim g c =
     let b = (goal.at.returns-in-Ok-release_claim g c).After-release_claim in
-    let s = settings_of g.E.CompactionExecutor.places.count c.args.self.now in
+    let s = c.args.self.now.settings in
     let m = manifest_of c.args.manifest.now in
     let e = entry_of c.args.claim.entry in
-    let h = held_of (g.E.CompactionExecutor.jobs c.args.self.now.executor).list c.args.self.now in
+    let h = c.args.self.now.held in
     let st = g.S.CompactionsStore.meaning c.args.store.now in
     let said = λ (k : Readings) (ms : List (Result Manifest ℕ)). sym (ap settled_of c.in-Ok-release_claim.is) ∙ answered g b k ms in
     record {
@@ -105,10 +104,10 @@ returns-in-Ok-release_claim g c =
 pub returns-in-Err-release_claim : goal.returns-in-Err-release_claim
 returns-in-Err-release_claim g c =
     let b = (goal.at.returns-in-Err-release_claim g c).After-release_claim in
-    let s = settings_of g.E.CompactionExecutor.places.count c.args.self.now in
+    let s = c.args.self.now.settings in
     let m = manifest_of c.args.manifest.now in
     let e = entry_of c.args.claim.entry in
-    let h = held_of (g.E.CompactionExecutor.jobs c.args.self.now.executor).list c.args.self.now in
+    let h = c.args.self.now.held in
     let st = g.S.CompactionsStore.meaning c.args.store.now in
     let f = fault_of c.in-Err-release_claim.fault in
     let said = λ (k : Readings) (ms : List (Result Manifest ℕ)). sym (ap settled_of c.in-Err-release_claim.is) ∙ answered g b k ms in

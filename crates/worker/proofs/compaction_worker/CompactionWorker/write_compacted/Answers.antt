@@ -10,21 +10,21 @@ use Rattle.worker_steps.specs.Releases.{written, dropped, stuck}
 use Rattle.worker_steps.specs.Completions.{ssts, completion_attempt}
 use Rattle.worker_steps.proofs.Retries.{trying_none, tried, tried_all, tried_once}
 use Rattle.worker.specs.Settling.{settle_turn_of}
-use Rattle.worker.specs.Workers.{held_of, settings_of}
+use Rattle.worker.specs.Worker.{Worker}
 use Rattle.worker.proofs.compaction_worker.CompactionWorker.write_compacted.Given as given
 use Rattle.worker.proofs.compaction_worker.CompactionWorker.write_compacted.Goals as goal
 use Rattle.worker.proofs.compaction_worker.CompactionWorker.write_compacted.Goals.{After-attempt_completion}
 
 pub attempts-init : goal.attempts-init
-attempts-init g c = (trying_none _ _ _ _ c.args.self.now.least, refl)
+attempts-init g c = (trying_none _ _ _ _ (rw (← c.self.view_is) c.self.invariant.0), refl)
 
 -- what the attempt left, by the settings of the whole work
-left_at : (g : given.Over) (c : After-attempt_completion g) (p : List (Result Manifest ℕ)) → state (held_of (g.E.CompactionExecutor.jobs c.attempt_completion.new.self.executor).list c.attempt_completion.new.self) (g.S.CompactionsStore.meaning c.attempt_completion.new.store) (readings_of c.attempt_completion.new.clock) p ≡ (completion_attempt (settings_of g.E.CompactionExecutor.places.count c.args.self.now) (number c.args.id) (ssts (run_of c.args.run.now)) c.attempts.attempt (state (held_of (g.E.CompactionExecutor.jobs c.attempts.self.executor).list c.attempts.self) (g.S.CompactionsStore.meaning c.attempts.store) (readings_of c.attempts.clock) p)).state
-left_at g c p = c.attempt_completion.ensures.after p ∙ ap (λ s. (completion_attempt s (number c.args.id) (ssts (run_of c.args.run.now)) c.attempts.attempt (state (held_of (g.E.CompactionExecutor.jobs c.attempts.self.executor).list c.attempts.self) (g.S.CompactionsStore.meaning c.attempts.store) (readings_of c.attempts.clock) p)).state) c.attempts.invariant.1
+left_at : (g : given.Over) (c : After-attempt_completion g) (p : List (Result Manifest ℕ)) → state c.attempt_completion.new.self.held (g.S.CompactionsStore.meaning c.attempt_completion.new.store) (readings_of c.attempt_completion.new.clock) p ≡ (completion_attempt c.args.self.now.settings (number c.args.id) (ssts (run_of c.args.run.now)) c.attempts.attempt (state c.attempts.self.held (g.S.CompactionsStore.meaning c.attempts.store) (readings_of c.attempts.clock) p)).state
+left_at g c p = c.attempt_completion.ensures.after p ∙ ap (λ s. (completion_attempt s (number c.args.id) (ssts (run_of c.args.run.now)) c.attempts.attempt (state c.attempts.self.held (g.S.CompactionsStore.meaning c.attempts.store) (readings_of c.attempts.clock) p)).state) c.attempts.invariant.1
 
 -- and what it answered
-said_at : (g : given.Over) (c : After-attempt_completion g) (p : List (Result Manifest ℕ)) → settle_turn_of c.attempt_completion.result ≡ (completion_attempt (settings_of g.E.CompactionExecutor.places.count c.args.self.now) (number c.args.id) (ssts (run_of c.args.run.now)) c.attempts.attempt (state (held_of (g.E.CompactionExecutor.jobs c.attempts.self.executor).list c.attempts.self) (g.S.CompactionsStore.meaning c.attempts.store) (readings_of c.attempts.clock) p)).result
-said_at g c p = c.attempt_completion.ensures.answer p ∙ ap (λ s. (completion_attempt s (number c.args.id) (ssts (run_of c.args.run.now)) c.attempts.attempt (state (held_of (g.E.CompactionExecutor.jobs c.attempts.self.executor).list c.attempts.self) (g.S.CompactionsStore.meaning c.attempts.store) (readings_of c.attempts.clock) p)).result) c.attempts.invariant.1
+said_at : (g : given.Over) (c : After-attempt_completion g) (p : List (Result Manifest ℕ)) → settle_turn_of c.attempt_completion.result ≡ (completion_attempt c.args.self.now.settings (number c.args.id) (ssts (run_of c.args.run.now)) c.attempts.attempt (state c.attempts.self.held (g.S.CompactionsStore.meaning c.attempts.store) (readings_of c.attempts.clock) p)).result
+said_at g c p = c.attempt_completion.ensures.answer p ∙ ap (λ s. (completion_attempt s (number c.args.id) (ssts (run_of c.args.run.now)) c.attempts.attempt (state c.attempts.self.held (g.S.CompactionsStore.meaning c.attempts.store) (readings_of c.attempts.clock) p)).result) c.attempts.invariant.1
 
 pub returns-in_err-attempt_completion : goal.returns-in_err-attempt_completion
 returns-in_err-attempt_completion g c =
@@ -48,22 +48,19 @@ returns-in-Dropped g c =
     let z = λ (ms : List (Result Manifest ℕ)). tried c.attempts.invariant.0 _ (left_at g b) dropped (λ p. sym was ∙ said_at g b p) ms in
     record { answer = λ ms. (z ms).0; after = λ ms. (z ms).1; settings = c.attempt_completion.ensures.settings ∙ c.attempts.invariant.1 }
 
-pub returns-then-attempt-self : goal.returns-then-attempt-self
-returns-then-attempt-self g c =
-    let b = (goal.at.returns-then-attempt-self g c).After-attempt_completion in
+pub returns-then-attempt-limit : goal.returns-then-attempt-limit
+returns-then-attempt-limit g c =
+    let b = (goal.at.returns-then-attempt-limit g c).After-attempt_completion in
     let was = ap settle_turn_of (c.in_ok-attempt_completion.was ∙ ap Ok c.in-Conflict.is) in
-    let limits = ap (λ s. s.limit) (c.attempt_completion.ensures.settings ∙ c.attempts.invariant.1) in
-    let last : c.args.self.now.limit ≤ c.attempts.attempt = omega (arith, c.if-attempt-self.true, limits) in
-    let at : c.attempts.attempt ≡ c.args.self.now.limit = omega (arith, last, c.attempts.invariant.0.within) in
+    let limits = ap (λ (x : Worker _). x.settings.limit) c.self.view_is in
+    let last : c.args.self.now.settings.limit ≤ c.attempts.attempt = omega (arith, c.if-attempt-limit.true, limits) in
+    let at : c.attempts.attempt ≡ c.args.self.now.settings.limit = omega (arith, last, c.attempts.invariant.0.within) in
     let z = λ (ms : List (Result Manifest ℕ)). tried_all c.attempts.invariant.0 _ (left_at g b) (λ p. sym was ∙ said_at g b p) last ms in
     record { answer = λ ms. ap (λ a. stuck (fault not_landed completion (Some (number c.args.id)) a)) at ∙ (z ms).0; after = λ ms. (z ms).1; settings = c.attempt_completion.ensures.settings ∙ c.attempts.invariant.1 }
-
-pub attempts-smaller : goal.attempts-smaller
-attempts-smaller g c = let limits = ap (λ s. s.limit) c.attempt_completion.ensures.settings in omega (arith, limits, c.if-attempt-self.false)
 
 pub attempts-preserved : goal.attempts-preserved
 attempts-preserved g c =
     let b = (goal.at.attempts-preserved g c).After-attempt_completion in
     let was = ap settle_turn_of (c.in_ok-attempt_completion.was ∙ ap Ok c.in-Conflict.is) in
-    let limits = ap (λ s. s.limit) (c.attempt_completion.ensures.settings ∙ c.attempts.invariant.1) in
-    (tried_once c.attempts.invariant.0 _ (left_at g b) (λ p. sym was ∙ said_at g b p) (omega (arith, limits, c.if-attempt-self.false)), c.attempt_completion.ensures.settings ∙ c.attempts.invariant.1)
+    let limits = ap (λ (x : Worker _). x.settings.limit) c.self.view_is in
+    (tried_once c.attempts.invariant.0 _ (left_at g b) (λ p. sym was ∙ said_at g b p) (omega (arith, limits, c.if-attempt-limit.false)), c.attempt_completion.ensures.settings ∙ c.attempts.invariant.1)

@@ -10,8 +10,9 @@ use Rattle.worker.proofs.owned_jobs.OwnedJobs.has_row.Goals as goal
 
 pub returns : goal.returns
 returns c =
-    let xs = rows_in c.args.self.now.job_progress in
-    c.is_some.ensures
+    let xs = rows_in c.self.inside.job_progress in
+    rw (← c.self.view_is)
+    (c.is_some.ensures
     ∙ ap is_some (c.find.ensures ∙ ap (lookup (by (λ (p : Progress). p.id)) (number c.args.id)) c.as_slice.ensures)
     ∙ sym ((lawful (by (λ (p : Progress). p.id))).holds_lookup (number c.args.id) xs)
-    ∙ holds-map row_of row_id (number c.args.id) xs
+    ∙ holds-map row_of row_id (number c.args.id) xs)

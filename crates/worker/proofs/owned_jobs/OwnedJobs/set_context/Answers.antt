@@ -1,22 +1,25 @@
-use Rattle.std.proofs.Common.{sym, ap}
+use Rattle.std.proofs.Common.{◌≡◌, true, sym, ap, ◌∙◌}
 use Rattle.worker_steps.proofs.Tracking.{replace_row}
-use Rattle.worker.specs.Meanings.{row_of}
-use Rattle.worker.specs.Owned.{owned_of, with_table}
-use Rattle.worker.proofs.Owned.{tracks_intro, tracked_jobs, small_jobs, row_replaced}
+use Rattle.worker.specs.Meanings.{row_of, table_of, list_of}
+use Rattle.table.specs.Tables.{holds}
+use Rattle.worker_steps.specs.States.{row_id}
+use Rattle.worker.specs.Owned.{Owned}
+use Rattle.worker.proofs.Owned.{tracks_intro, tracks_small, tracked_jobs, row_replaced}
 use Rattle.worker.proofs.owned_jobs.OwnedJobs.set_context.Goals as goal
 
 pub invariant_of-self : goal.invariant_of-self
 invariant_of-self c =
-    let o = c.args.self.now in
-    let h = sym c.if-not-has_row.ensures in
-    let e = row_replaced o.job_progress c.put.new.self c.args.row c.put.result (small_jobs o) (tracked_jobs o) h c.put.ensures.value c.put.ensures.after in
-    record { tracked = tracks_intro o.maximum _ _ (small_jobs o) (rw e (replace_row (row_of c.args.row) (tracked_jobs o) h)) }
+    let o = c.self.inside in
+    let small = tracks_small o.maximum _ _ c.self.invariant in
+    let b = tracked_jobs o.maximum o.job_progress o.left_behind c.self.invariant in
+    let h : holds row_id (row_of c.args.row).id (table_of o.job_progress) ≡ true = ap (λ (x : Owned). holds row_id (row_of c.args.row).id x.table) c.self.view_is ∙ sym c.if-not-has_row.ensures in
+    let e = row_replaced o.job_progress c.put.new.self c.args.row c.put.result small b h c.put.ensures.value c.put.ensures.after in
+    tracks_intro o.maximum _ _ small (rw e (replace_row (row_of c.args.row) b h))
 
-pub returns : goal.returns
-returns c =
-    let o = c.args.self.now in
-    let h = sym c.if-not-has_row.ensures in
-    record {
-      value = sym h;
-      after = ap (with_table (owned_of o)) (row_replaced o.job_progress c.put.new.self c.args.row c.put.result (small_jobs o) (tracked_jobs o) h c.put.ensures.value c.put.ensures.after);
-    }
+pub returns-clause-after : goal.returns-clause-after
+returns-clause-after c =
+    let o = c.self.inside in
+    let small = tracks_small o.maximum _ _ c.self.invariant in
+    let b = tracked_jobs o.maximum o.job_progress o.left_behind c.self.invariant in
+    let h : holds row_id (row_of c.args.row).id (table_of o.job_progress) ≡ true = ap (λ (x : Owned). holds row_id (row_of c.args.row).id x.table) c.self.view_is ∙ sym c.if-not-has_row.ensures in
+    rw (← c.self.view_is) (ap (λ t. record { maximum = o.maximum; table = t; left = list_of o.left_behind }) (row_replaced o.job_progress c.put.new.self c.args.row c.put.result small b h c.put.ensures.value c.put.ensures.after))
