@@ -5,3 +5,5 @@ pub mod Mapped
 pub mod Order
 pub mod Absurd
 pub mod Pushes
+pub mod Edits
+pub mod Kept

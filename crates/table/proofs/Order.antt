@@ -1,5 +1,6 @@
 -- The order of rows as a fact and as a test.
-use Rattle.std.proofs.Common.{◌≡◌, ℕ, ◌<◌, Bool, true, false, cond, List, [], ◌∷◌, refl, arith}
+use Rattle.std.proofs.Common.{◌≡◌, ℕ, ◌<◌, Bool, true, false, cond, List, [], ◌∷◌, ◌++◌, refl, arith}
+use Rattle.std.specs.List.{AllByRecursion}
 use Rattle.std.proofs.ByRecursion.{All-weaker}
 use Rattle.std.proofs.lemmas.Bool.{ltb-true, lt-ltb, false≢true}
 use Rattle.table.specs.Tables.{Ascending, ascends, put, strike}
@@ -30,3 +31,19 @@ module _ {R : Type 0} (key : R → ℕ) where
 
   pub strike_ascends : (k : ℕ) (xs : List R) → ascends key xs ≡ true → ascends key (strike key k xs) ≡ true
   strike_ascends k xs e = ascends_from (strike key k xs) ((lawful key).strike_ascends k xs (ascending_from xs e))
+
+  pub ascends_either : (b : Bool) (xs ys : List R) → ascends key xs ≡ true → ascends key ys ≡ true → ascends key (cond b xs ys) ≡ true
+  ascends_either true xs ys h k = h
+  ascends_either false xs ys h k = k
+
+  above_without : (y : R) (ys zs : List R) (x : R) → AllByRecursion (λ z. key y < key z) (ys ++ (x ∷ zs)) → AllByRecursion (λ z. key y < key z) (ys ++ zs)
+  above_without y [] zs x a = a.1
+  above_without y (z ∷ ys) zs x a = (a.0, above_without y ys zs x a.1)
+
+  -- without an item in the middle
+  ascending_without : (ys zs : List R) (x : R) → Ascending key (ys ++ (x ∷ zs)) → Ascending key (ys ++ zs)
+  ascending_without [] zs x a = a.1
+  ascending_without (y ∷ ys) zs x a = (above_without y ys zs x a.0, ascending_without ys zs x a.1)
+
+  pub ascends_without : (ys zs : List R) (x : R) → ascends key (ys ++ (x ∷ zs)) ≡ true → ascends key (ys ++ zs) ≡ true
+  ascends_without ys zs x e = ascends_from (ys ++ zs) (ascending_without ys zs x (ascending_from (ys ++ (x ∷ zs)) e))

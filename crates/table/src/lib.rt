@@ -1,6 +1,7 @@
 // Rows with ids, kept in ascending order.
 #![tactic(auto)]
 
+pub mod fixed_table;
 pub mod row;
 pub mod rows;
 pub mod scan;

@@ -1,7 +1,8 @@
 // Where an id stands among rows, and the row that has it.
 ghost use Rattle.std.specs.Prelude.{◌≡◌};
+ghost use Rattle.std.specs.List.{slice_get};
 ghost use Rattle.table.specs.Ids.{by, number};
-ghost use Rattle.table.specs.Tables.{lookup, first_with, not_before, named_so};
+ghost use Rattle.table.specs.Tables.{lookup, first_with, not_before, named_so, hits};
 
 use crate::row::Row;
 use crate::ulid::Ulid;
@@ -40,4 +41,11 @@ pub fn find<R: Row>(rows: &[R], id: Ulid) -> Option<R>
     } else {
         None
     }
+}
+
+// Whether the row at a place has the id.
+pub(crate) fn is_at<R: Row>(rows: &[R], at: usize, id: Ulid) -> bool
+    ensures { result ≡ hits (by R.named) (number id) (slice_get rows.now at) }
+{
+    matches!(rows.get(at), Some(row) if row.id() == id)
 }

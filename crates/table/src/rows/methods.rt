@@ -58,4 +58,10 @@ impl<T: Copy, const N: usize> Rows<T, N> {
         self.len += 1;
         Ok(())
     }
+
+    pub(crate) fn clear(&mut self)
+        ensures { items_of self.new ≡ [] }
+    {
+        self.len = 0;
+    }
 }
