@@ -1,22 +1,18 @@
 -- Rows of a job table, the jobs that they mean, and the jobs' arguments.
-use Rattle.std.proofs.Common.{◌≡◌, ℕ, ◌≤◌, Bool, true, false, cond, ltb, List, map, length, take, sym, refl, ap, ◌∙◌, arith}
+use Rattle.std.proofs.Common.{◌≡◌, ℕ, Bool, true, false, cond, ltb, List, map, length, sym, refl, ap, ◌∙◌, arith}
 use Rattle.std.proofs.lemmas.List.{length-map}
 use Rattle.std.proofs.lemmas.Bool.{false≢true}
 use Rattle.std.proofs.lemmas.Bool.Decides.{nat_tests}
 use Rattle.table.specs.Ids.{by}
-use Rattle.table.specs.declared.table.Table.{Table}
-use Rattle.table.specs.Meaning.{rows_of, room_of}
 use Rattle.table.specs.Tables.{ascends, holds, put, admits, strike}
 use Rattle.table.proofs.Proved.{lawful}
 use Rattle.table.proofs.Order.{ascending_from}
 use Rattle.table.proofs.Mapped.{holds-map, put_map, strike-map}
 use Rattle.compactions.specs.Jobs.{Args}
 use Rattle.executors.specs.declared.job_table.Job as rows
-use Rattle.executors.specs.declared.job_table.JobTable.{JobTable}
 use Rattle.executors.specs.Executors.{job_id, may_start}
 use Rattle.executors.specs.Jobs.{Job, Jobs, id_of, args_in, following, begun, ended}
 use Rattle.executors.specs.Tables.{job_of}
-use Rattle.executors.proofs.Scans.{same_front}
 
 -- a new row fits exactly if a place is free
 admits_new : {R : Type 0} (key : R → ℕ) (room : ℕ) (r : R) (xs : List R) → ascends key xs ≡ true → holds key (key r) xs ≡ false → admits key room r xs ≡ ltb (length xs) room
@@ -87,11 +83,3 @@ inserted_new r b xs ys zs s a h e f =
     by_meaning : (v : Bool) → map job_of (cond v (put row_id r xs) xs) ≡ cond v (put id_of (job_of r) (map job_of xs)) (map job_of xs)
     by_meaning true = put_map job_of id_of r xs
     by_meaning false = refl
-
--- a table that was lent its rows and did not write: the rows that count stay
-pub front_kept : (t : JobTable) (u : Table rows.Job) → rows_of u ≡ take t.len t.rows → take t.len u.rows.now ≡ take t.len t.rows
-front_kept t u e = same_front u.len t.len u.rows.now t.rows u.within (omega (arith, t.whole, t.within)) e
-
--- and so does what holds of them
-pub facts_kept : (t : JobTable) (u : Table rows.Job) → room_of u ≡ length t.rows → rows_of u ≡ take t.len t.rows → (length u.rows.now ≡ 8) × ((t.len ≤ 8) × ((ascends row_id (take t.len u.rows.now) ≡ true) × Unit {0}))
-facts_kept t u r e = (r ∙ t.whole, (t.within, (ap (ascends row_id) (front_kept t u e) ∙ t.ascending, tt)))

@@ -1,3 +1,2 @@
 pub mod JobRows
-pub mod Scans
-pub mod Running
+pub mod Finds

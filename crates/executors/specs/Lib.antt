@@ -2,7 +2,9 @@ pub mod Executors
 pub mod Notices
 pub mod Jobs
 pub mod Tables
+pub mod TableExecutors
 pub mod Oldest
 pub mod Lists
 pub mod Clocks
 pub mod Manifests
+pub mod Running

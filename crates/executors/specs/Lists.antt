@@ -1,11 +1,11 @@
 -- An executor that gives the notices of a list.
-use Rattle.std.specs.Prelude.{cond, List, [], ◌∷◌, map, drop, Some, None, Option}
+use Rattle.std.specs.Prelude.{cond, List, [], ◌∷◌, Some, None, Option}
 use Rattle.compactions.specs.Jobs.{Args}
-use Rattle.executors.specs.declared.list_executor.ListExecutor.{ListExecutor}
+use Rattle.executors.specs.declared.list_executor.ListNotices.{ListNotices}
+use Rattle.executors.specs.declared.table_executor.TableExecutor.{TableExecutor}
 use Rattle.executors.specs.Executors.{Notice, runs}
-use Rattle.executors.specs.Notices.{notice_of}
 use Rattle.executors.specs.Jobs.{args_in}
-use Rattle.executors.specs.Tables.{table_of}
+use Rattle.executors.specs.TableExecutors.{jobs_of}
 
 -- the first notice of a running job
 abbrev pub first_running : List Args → List Notice → Option Notice
@@ -18,9 +18,9 @@ behind_running jobs [] = []
 behind_running jobs (n ∷ ns) = cond (runs jobs n) ns (behind_running jobs ns)
 
 -- its jobs
-abbrev pub list_jobs : ListExecutor → List Args
-list_jobs e = args_in (table_of e.jobs)
+abbrev pub list_jobs : TableExecutor ListNotices → List Args
+list_jobs e = args_in (jobs_of e)
 
 -- the notices ahead
-abbrev pub ahead_of : ListExecutor → List Notice
-ahead_of e = map notice_of (drop e.at e.notices.now)
+abbrev pub ahead_of : TableExecutor ListNotices → List Notice
+ahead_of e = e.notices

@@ -1,8 +1,9 @@
 -- What an executor that finishes its oldest job stands for.
-use Rattle.executors.specs.declared.oldest_executor.OldestExecutor.{OldestExecutor}
+use Rattle.executors.specs.declared.oldest_executor.OldestFinishes.{OldestFinishes}
+use Rattle.executors.specs.declared.table_executor.TableExecutor.{TableExecutor}
 use Rattle.executors.specs.Jobs.{Jobs}
-use Rattle.executors.specs.Tables.{table_of}
+use Rattle.executors.specs.TableExecutors.{jobs_of}
 
 -- its jobs
-abbrev pub oldest_jobs : OldestExecutor → Jobs
-oldest_jobs e = table_of e.jobs
+abbrev pub oldest_jobs : TableExecutor OldestFinishes → Jobs
+oldest_jobs e = jobs_of e

@@ -3,7 +3,7 @@
 // The trait is reworked from src/compactor_executor.rs and the notices from
 // src/compaction_worker.rs of slatedb 0.16.0 (Apache-2.0, see NOTICE); changed: a start answers
 // whether the job runs, notices are taken one by one in place of being sent, a failure is a number.
-ghost use Rattle.std.specs.Prelude.{◌≡◌, [], if◌then◌else◌};
+ghost use Rattle.std.specs.Prelude.{◌≡◌, ℕ, [], if◌then◌else◌};
 ghost use Rattle.std.specs.Option.{option_map};
 ghost use Rattle.table.specs.Ids.{number};
 ghost use Rattle.table.specs.Tables.{holds, put, strike};
@@ -35,8 +35,8 @@ impl WorkerMessage {
         ensures { number result ≡ notice_id (notice_of self.now) }
     {
         match self {
-            WorkerMessage::CompactionJobProgress { id, ctx: _ } => *id,
-            WorkerMessage::CompactionJobFinished { id, result: _ } => *id,
+            WorkerMessage::CompactionJobProgress { id, .. }
+            | WorkerMessage::CompactionJobFinished { id, .. } => *id,
         }
     }
 }
@@ -44,6 +44,9 @@ impl WorkerMessage {
 pub trait CompactionExecutor {
     // How many jobs can run at once.
     const PLACES: usize;
+
+    // the constant, as a generic impl knows it
+    ghost PLACES: { ℕ };
 
     // the same number, eight or more: `place_count` holds the constant to it
     ghost places: { Capacity };

@@ -1,91 +1,56 @@
 // An executor that gives the notices of a lent list in order, but for those whose job does not run.
-ghost use Rattle.std.specs.Prelude.{◌≡◌, [], map, if◌then◌else◌};
-ghost use Rattle.std.specs.Option.{option_map};
-ghost use Rattle.table.specs.Ids.{number};
-ghost use Rattle.table.specs.Tables.{holds, put, strike};
-ghost use Rattle.compactions.specs.Jobs.{args_of};
-ghost use Rattle.executors.specs.Executors.{job_id, may_start, Takes};
+ghost use Rattle.std.specs.Prelude.{◌≡◌, [], map};
 ghost use Rattle.executors.specs.Notices.{notice_of};
-ghost use Rattle.executors.specs.Tables.{eight, running_in};
+ghost use Rattle.executors.specs.Jobs.{args_in};
 ghost use Rattle.executors.specs.Lists.{list_jobs, ahead_of, first_running, behind_running};
+ghost use Rattle.executors.specs.Running.{first_runs};
 
-use crate::compactor_executor::{CompactionExecutor, WorkerMessage};
+use crate::compactor_executor::WorkerMessage;
 use crate::job_table::JobTable;
-use compactions::job_args::StartCompactionJobArgs;
-use table::ulid::Ulid;
+use crate::next_notice::NextNotice;
+use crate::table_executor::TableExecutor;
+use std::marker::Model;
+use std::slice::Iter;
 
-// The notices from `at` on are ahead.
+pub type ListExecutor<'a> = TableExecutor<ListNotices<'a>>;
+
+// The notices ahead.
 #[derive(Drop)]
-pub struct ListExecutor<'a> {
-    notices: &'a [WorkerMessage],
-    at: usize,
-    jobs: JobTable,
+pub struct ListNotices<'a> {
+    ahead: Iter<'a, WorkerMessage>,
 }
 
-impl<'a> ListExecutor<'a> {
+impl<'a> Model for ListNotices<'a> {
+    ghost use Rattle.std.specs.Prelude.{List, map};
+    ghost use Rattle.std.specs.Slice.Iter.{iter_rest};
+    ghost use Rattle.executors.specs.Executors.{Notice};
+    ghost use Rattle.executors.specs.Notices.{notice_of};
+
+    ghost Value = { List Notice };
+
+    ghost view = { λ s. map notice_of (iter_rest s.ahead) };
+}
+
+impl<'a> TableExecutor<ListNotices<'a>> {
     pub fn new(notices: &'a [WorkerMessage]) -> ListExecutor<'a>
         ensures jobs { list_jobs result ≡ [] }
         ensures ahead { ahead_of result ≡ map notice_of notices.now }
     {
-        ListExecutor {
-            notices,
-            at: 0,
-            jobs: JobTable::new(),
-        }
+        TableExecutor::over(ListNotices {
+            ahead: notices.iter(),
+        })
     }
 }
 
-impl<'a> CompactionExecutor for ListExecutor<'a> {
-    const PLACES: usize = 8;
+impl<'a> NextNotice for ListNotices<'a> {
+    ghost coming = { λ ns t. first_running (args_in t) ns };
 
-    ghost places = { eight };
+    ghost behind = { λ ns t. behind_running (args_in t) ns };
 
-    ghost jobs = { λ e. running_in e.jobs };
-
-    fn place_count() -> usize
-        ensures { result ≡ 8 }
-    {
-        Self::PLACES
-    }
-
-    fn start_compaction_job(&mut self, args: StartCompactionJobArgs) -> bool
-        ensures value { result ≡ may_start 8 (args_of args).id (list_jobs self.old) }
-        ensures jobs { list_jobs self.new ≡ (if result then put job_id (args_of args) (list_jobs self.old) else list_jobs self.old) }
-        ensures ahead { ahead_of self.new ≡ ahead_of self.old }
-    {
-        self.jobs.start(args)
-    }
-
-    fn stop_compaction_job(&mut self, id: Ulid) -> bool
-        ensures value { result ≡ holds job_id (number id) (list_jobs self.old) }
-        ensures jobs { list_jobs self.new ≡ strike job_id (number id) (list_jobs self.old) }
-        ensures ahead { ahead_of self.new ≡ ahead_of self.old }
-    {
-        self.jobs.end(id)
-    }
-
-    fn stop(&mut self)
-        ensures jobs { list_jobs self.new ≡ [] }
-        ensures ahead { ahead_of self.new ≡ ahead_of self.old }
-    {
-        self.jobs.clear();
-    }
+    ghost of_running = { λ ns t. first_runs (args_in t) ns };
 
     // The first notice ahead whose job runs; those before it are used up too.
-    fn take(&mut self) -> Option<WorkerMessage>
-        ensures takes { Takes (list_jobs self.old) (option_map notice_of result) (list_jobs self.new) }
-        ensures notice { option_map notice_of result ≡ first_running (list_jobs self.old) (ahead_of self.old) }
-        ensures ahead { ahead_of self.new ≡ behind_running (list_jobs self.old) (ahead_of self.old) }
-    {
-        let notices = self.notices;
-        let at = self.jobs.first_running(notices, self.at);
-        if at >= notices.len() {
-            self.at = at;
-            return None;
-        }
-        let notice = notices[at];
-        self.at = at + 1;
-        self.jobs.settle(notice);
-        Some(notice)
+    fn next_notice(&mut self, jobs: &JobTable) -> Option<WorkerMessage> {
+        self.ahead.find(|notice| jobs.runs(notice.id())).copied()
     }
 }

@@ -15,6 +15,7 @@ use crate::compactor_executor::WorkerMessage;
 use compactions::db_state::SortedRun;
 use compactions::job_args::StartCompactionJobArgs;
 use compactions::manifest::LsmTreeState;
+use table::scan;
 use table::table::Table;
 use table::ulid::Ulid;
 
@@ -101,33 +102,24 @@ impl JobTable {
         ensures after { table_of self.new ≡ settled (Some (notice_of notice)) (table_of self.old) }
         ensures jobs { args_in (table_of self.new) ≡ left_by (Some (notice_of notice)) (args_in (table_of self.old)) }
     {
-        if let WorkerMessage::CompactionJobFinished { id, result: _ } = notice {
+        if let WorkerMessage::CompactionJobFinished { id, .. } = notice {
             self.end(id);
         }
     }
 
-    // The place of the first notice of a running job, from a place on; past the end where there is none.
-    pub(crate) fn first_running(&mut self, notices: &[WorkerMessage], from: usize) -> usize
-        ensures notice { option_map notice_of (slice_get notices.now result) ≡ first_running (args_in (table_of self.old)) (map notice_of (drop from notices.now)) }
-        ensures behind { map notice_of (drop (result + 1) notices.now) ≡ behind_running (args_in (table_of self.old)) (map notice_of (drop from notices.now)) }
-        ensures same { table_of self.new ≡ table_of self.old }
+    // Whether the job of an id runs.
+    pub(crate) fn runs(&self, id: Ulid) -> bool
+        ensures { result ≡ holds job_id (number id) (args_in (table_of self.now)) }
     {
-        let len = self.len;
-        let table = Table::over(&mut self.rows, len);
-        let mut at = from;
-        while at < notices.len() && !table.holds(notices[at].id()) {
-            at += 1;
-        }
-        at
+        scan::find(&self.rows[..self.len], id).is_some()
     }
 
     // The job of the least start.
     pub(crate) fn oldest(&self) -> Option<Job>
         ensures { option_map job_of result ≡ oldest (table_of self.now).running }
     {
-        let all = &self.rows[..];
         let mut oldest = None;
-        for job in &all[0..self.len] {
+        for job in &self.rows[..self.len] {
             oldest = Some(older(oldest, *job));
         }
         oldest
