@@ -6,6 +6,7 @@ pub mod Coming
 pub mod Leaving
 pub mod Attempts
 pub mod Claiming
+pub mod Retrying
 pub mod OneEntry
 pub mod Dispatching
 pub mod Polling

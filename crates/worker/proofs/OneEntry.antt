@@ -4,23 +4,23 @@ use Rattle.table.specs.Tables.{lookup, holds}
 use Rattle.table.proofs.Proved.{lawful}
 use Rattle.compactions.specs.Entries.{Entry}
 use Rattle.compactions.specs.Trees.{Manifest}
-use Rattle.executors.specs.Clocks.{Readings, reading, passed, stamped}
+use Rattle.executors.specs.Clocks.{Readings}
 use Rattle.stores.specs.Records.{Record, entry_id}
 use Rattle.stores.specs.Stores.{Store, read, got, UpdateAnswer, update}
 use Rattle.stores.specs.Meanings as stores
 use Rattle.stores.specs.declared.compactions_store.StoreFault.{StoreFault}
 use Rattle.stores.specs.declared.compactions_store.Updated.{Updated}
-use Rattle.worker_steps.specs.Faults.{release, completion, fault_during, told_fault, told_as, store_failed}
+use Rattle.worker_steps.specs.Faults.{fault_during, told_fault, told_as, store_failed}
 use Rattle.worker_steps.specs.States.{Settings, Held, State, state}
 use Rattle.worker_steps.specs.Owning.{under}
 use Rattle.worker_steps.specs.Effects.{Effect, effect_free, Turn, ends, on_update}
 use Rattle.worker_steps.specs.Looks.{held_after, on_read}
-use Rattle.worker_steps.specs.Releases.{Settled, written, dropped, stuck, released_as, entry_write, if_under, release_read, release_attempt}
-use Rattle.worker_steps.specs.Completions.{completed_as, completion_read, completion_attempt}
+use Rattle.worker_steps.specs.Releases.{Settled, written, dropped, stuck, entry_write, if_under}
 use Rattle.worker_steps.specs.declared.fault.During.{During}
 use Rattle.worker_steps.specs.declared.fault.Told.{Told}
 use Rattle.worker_steps.proofs.Rows.{held}
 use Rattle.worker.specs.Settling.{if_own}
+use Rattle.worker.specs.EntryWorks.{EntryWork, entry_read, entry_attempt}
 
 -- an own entry is the one that was looked up
 pub own_found : (n : ℕ) (o : Option Entry) (e : Entry) → Some e ≡ if_own n o → o ≡ Some e
@@ -59,20 +59,11 @@ update_ok d (Err f) u e = cc
 pub handed : (d d' : Record) (st : Store) (ua : UpdateAnswer) (bad : _ → Settled) → d' ≡ d → ua ≡ (update d' st).answer → on_update ua written bad ≡ on_update (update d st).answer written bad
 handed d d' st ua bad e p = ap (λ x. on_update x written bad) (p ∙ ap (λ x. (update x st).answer) e)
 
--- an attempt that read the record
-module _ (s : Settings) (i : ℕ) (outs : List ℕ) (a : ℕ) (h : Held) (st : Store) (c : Readings) (ms : List (Result Manifest ℕ)) (h₁ : Held) (st₁ : Store) (looked : h₁ ≡ held_after s.number (read st).answer h) (after : st₁ ≡ (read st).after) (r : Record) (found : (read st).answer ≡ got r) where
-  -- a release that found its entry
-  pub release_found : (e : Entry) → Some e ≡ if_own s.number (lookup entry_id i r.entries) → release_attempt s i a (state h st c ms) ≡ entry_write release i a r (released_as e) (state h₁ st₁ c ms)
-  release_found e own =
-      ap (λ x. on_read stuck release (Some i) a x (state (held_after s.number (read st).answer h) (read st).after c ms) (release_read s.number i a)) found
-      ∙ ap (λ x. release_read s.number i a r (state x (read st).after c ms)) (sym looked)
-      ∙ ap (λ x. release_read s.number i a r (state h₁ x c ms)) (sym after)
-      ∙ if_own_some s.number (lookup entry_id i r.entries) e (state h₁ st₁ c ms) _ own
-
-  -- a completion that found its entry
-  pub completion_found : (e : Entry) → Some e ≡ if_own s.number (lookup entry_id i r.entries) → completion_attempt s i outs a (state h st c ms) ≡ entry_write completion i a r (completed_as s.number (stamped (reading c)) outs e) (state h₁ st₁ (passed c) ms)
-  completion_found e own =
-      ap (λ x. on_read stuck completion (Some i) a x (state (held_after s.number (read st).answer h) (read st).after c ms) (completion_read s.number i outs a)) found
-      ∙ ap (λ x. completion_read s.number i outs a r (state x (read st).after c ms)) (sym looked)
-      ∙ ap (λ x. completion_read s.number i outs a r (state h₁ x c ms)) (sym after)
+-- an attempt that read the record and found the entry
+module _ (x : EntryWork) (s : Settings) (i a : ℕ) (h : Held) (st : Store) (c : Readings) (ms : List (Result Manifest ℕ)) (h₁ : Held) (st₁ : Store) (looked : h₁ ≡ held_after s.number (read st).answer h) (after : st₁ ≡ (read st).after) (r : Record) (found : (read st).answer ≡ got r) where
+  pub entry_found : (e : Entry) → Some e ≡ if_own s.number (lookup entry_id i r.entries) → entry_attempt x s i a (state h st c ms) ≡ entry_write x.work i a r (x.changed s.number c e) (state h₁ st₁ (x.clock c) ms)
+  entry_found e own =
+      ap (λ y. on_read stuck x.work (Some i) a y (state (held_after s.number (read st).answer h) (read st).after c ms) (entry_read x s.number i a)) found
+      ∙ ap (λ y. entry_read x s.number i a r (state y (read st).after c ms)) (sym looked)
+      ∙ ap (λ y. entry_read x s.number i a r (state h₁ y c ms)) (sym after)
       ∙ if_own_some s.number (lookup entry_id i r.entries) e (state h₁ st₁ c ms) _ own

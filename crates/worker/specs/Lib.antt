@@ -6,6 +6,7 @@ pub mod Reads
 pub mod Claims
 pub mod Polls
 pub mod Settling
+pub mod EntryWorks
 pub mod Dispatches
 pub mod Making
 pub mod Notices

@@ -6,8 +6,6 @@ use Rattle.worker_steps.specs.Owning.{under}
 use Rattle.worker_steps.specs.Effects.{Turn, ends, again}
 use Rattle.worker_steps.specs.Releases as steps
 use Rattle.worker_steps.specs.declared.fault.WorkerFault.{WorkerFault}
-use Rattle.worker.specs.declared.settling.SettleTurn.{SettleTurn}
-use Rattle.worker.specs.declared.settling.SettleTurn.TheVariants as turns
 use Rattle.worker.specs.declared.settling.Settled.{Settled}
 use Rattle.worker.specs.declared.settling.Settled.TheVariants.{Written, Dropped}
 
@@ -16,15 +14,14 @@ abbrev pub if_own : ℕ → Option Entry → Option Entry
 if_own n None = None
 if_own n (Some e) = elim (under n e) [ true ↦ Some e | false ↦ None ]
 
--- one attempt, by its answer
-abbrev pub settle_turn_of : Result SettleTurn WorkerFault → Turn steps.Settled
-settle_turn_of (Ok turns.Written) = ends steps.written
-settle_turn_of (Ok turns.Dropped) = ends steps.dropped
-settle_turn_of (Ok turns.Conflict) = again
-settle_turn_of (Err f) = ends (steps.stuck (fault_of f))
-
 -- the whole work
 abbrev pub settled_of : Result Settled WorkerFault → steps.Settled
 settled_of (Ok Written) = steps.written
 settled_of (Ok Dropped) = steps.dropped
 settled_of (Err f) = steps.stuck (fault_of f)
+
+-- one attempt, by its answer; none is a conflict
+abbrev pub settle_turn_of : Result (Option Settled) WorkerFault → Turn steps.Settled
+settle_turn_of (Ok None) = again
+settle_turn_of (Ok (Some s)) = ends (settled_of (Ok s))
+settle_turn_of (Err f) = ends (settled_of (Err f))

@@ -11,6 +11,7 @@ mod choice;
 mod claim;
 mod completion;
 mod dispatch;
+mod entry_work;
 mod making;
 mod notice;
 mod poll;

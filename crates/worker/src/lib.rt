@@ -4,6 +4,7 @@
 mod claims;
 pub mod compaction_worker;
 mod dispatch;
+mod entry_work;
 pub mod job_progress;
 mod left_behind;
 pub mod making;

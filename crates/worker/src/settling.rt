@@ -26,14 +26,6 @@ pub enum Settled {
     Dropped,
 }
 
-// One attempt at it that met no fault.
-#[derive(Clone, Copy)]
-pub enum SettleTurn {
-    Written,
-    Dropped,
-    Conflict,
-}
-
 // The entry of an id, if it is under the number.
 pub(crate) fn own_entry(draft: &Draft, id: Ulid, number: u32) -> Option<Compaction>
     ensures { option_map entry_of result ≡ if_own number (lookup entry_id (id-number id) (draft_of draft.now).entries) }
@@ -46,13 +38,13 @@ pub(crate) fn own_entry(draft: &Draft, id: Ulid, number: u32) -> Option<Compacti
     }
 }
 
-// Hands the draft in with one entry in the place of the one with its id.
+// Hands the draft in with one entry in the place of the one with its id; gives nothing after a conflict.
 pub(crate) fn hand_in<S: CompactionsStore>(
     store: &mut S,
     draft: Draft,
     entry: Compaction,
     during: During,
-) -> Result<SettleTurn, WorkerFault>
+) -> Result<Option<Settled>, WorkerFault>
     requires { holds entry_id (entry_of entry).id (draft_of draft).entries ≡ true }
     ensures answer { settle_turn_of result ≡ on_update (update (with_entries (draft_of draft) (put entry_id (entry_of entry) (draft_of draft).entries)) (S.meaning store.old)).answer written (λ f. stuck (fault_during (store_failed f) during)) }
     ensures after { S.meaning store.new ≡ (update (with_entries (draft_of draft) (put entry_id (entry_of entry) (draft_of draft).entries)) (S.meaning store.old)).after }
@@ -60,7 +52,7 @@ pub(crate) fn hand_in<S: CompactionsStore>(
     let mut draft = draft;
     let _ = draft.insert(entry);
     match during.tell(store.update(draft))? {
-        Updated::Landed => Ok(SettleTurn::Written),
-        Updated::Conflict => Ok(SettleTurn::Conflict),
+        Updated::Landed => Ok(Some(Settled::Written)),
+        Updated::Conflict => Ok(None),
     }
 }

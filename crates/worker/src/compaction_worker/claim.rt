@@ -5,7 +5,6 @@ ghost use Rattle.table.specs.Ids.{number as id-number};
 ghost use Rattle.table.specs.Tables.{holds, put};
 ghost use Rattle.compactions.specs.Meanings.{entry_of};
 ghost use Rattle.compactions.specs.Trees.{Manifest};
-ghost use Rattle.executors.specs.Clocks.{readings_of};
 ghost use Rattle.stores.specs.Records.{entry_id};
 ghost use Rattle.stores.specs.Meanings.{draft_of};
 ghost use Rattle.worker_steps.specs.States.{self_id, with_left, state};
@@ -81,9 +80,9 @@ impl<E: CompactionExecutor> CompactionWorker<E> {
         requires room { capacity + length self.old.held.table ≤ self.old.settings.maximum }
         requires few { (counts.old.stopped ≤ 32 * attempt) × (attempt ≤ 64) }
         requires fresh { (counts.old.claimed ≡ 0) × (counts.old.left ≡ 0) }
-        ensures answer { (ms : List (Result Manifest ℕ)) → turn_of attempt result ≡ turn_end (claim_attempt self.old.settings capacity attempt (state self.old.held (S.meaning store.old) (readings_of clock.old) ms)).result }
-        ensures counts { (ms : List (Result Manifest ℕ)) → counts_of counts.new ≡ counted_turn (counts_of counts.old) (claim_attempt self.old.settings capacity attempt (state self.old.held (S.meaning store.old) (readings_of clock.old) ms)).result (claim_attempt self.old.settings capacity attempt (state self.old.held (S.meaning store.old) (readings_of clock.old) ms)).stopped }
-        ensures after { (ms : List (Result Manifest ℕ)) → state self.new.held (S.meaning store.new) (readings_of clock.new) ms ≡ (claim_attempt self.old.settings capacity attempt (state self.old.held (S.meaning store.old) (readings_of clock.old) ms)).state }
+        ensures answer { (ms : List (Result Manifest ℕ)) → turn_of attempt result ≡ turn_end (claim_attempt self.old.settings capacity attempt (state self.old.held (S.meaning store.old) clock.old ms)).result }
+        ensures counts { (ms : List (Result Manifest ℕ)) → counts_of counts.new ≡ counted_turn (counts_of counts.old) (claim_attempt self.old.settings capacity attempt (state self.old.held (S.meaning store.old) clock.old ms)).result (claim_attempt self.old.settings capacity attempt (state self.old.held (S.meaning store.old) clock.old ms)).stopped }
+        ensures after { (ms : List (Result Manifest ℕ)) → state self.new.held (S.meaning store.new) clock.new ms ≡ (claim_attempt self.old.settings capacity attempt (state self.old.held (S.meaning store.old) clock.old ms)).state }
         ensures settings { self.new.settings ≡ self.old.settings }
         ensures pending { PendingTurn self.new.settings.maximum self.new.held result }
         ensures room { capacity + length self.new.held.table ≤ self.new.settings.maximum }
@@ -129,9 +128,9 @@ impl<E: CompactionExecutor> CompactionWorker<E> {
         counts: &mut PollCounts,
     ) -> Result<Option<LandedClaims>, WorkerFault>
         requires { (counts.old.claimed ≡ 0) × ((counts.old.left ≡ 0) × (counts.old.stopped ≡ 0)) }
-        ensures answer { (ms : List (Result Manifest ℕ)) → claim_of result ≡ claim_end (claiming self.old.settings (self.old.settings.maximum - length self.old.held.table) (state self.old.held (S.meaning store.old) (readings_of clock.old) ms)).result }
-        ensures counts { (ms : List (Result Manifest ℕ)) → counts_of counts.new ≡ counted_claim (counts_of counts.old) (claiming self.old.settings (self.old.settings.maximum - length self.old.held.table) (state self.old.held (S.meaning store.old) (readings_of clock.old) ms)).result (claiming self.old.settings (self.old.settings.maximum - length self.old.held.table) (state self.old.held (S.meaning store.old) (readings_of clock.old) ms)).stopped }
-        ensures after { (ms : List (Result Manifest ℕ)) → state self.new.held (S.meaning store.new) (readings_of clock.new) ms ≡ (claiming self.old.settings (self.old.settings.maximum - length self.old.held.table) (state self.old.held (S.meaning store.old) (readings_of clock.old) ms)).state }
+        ensures answer { (ms : List (Result Manifest ℕ)) → claim_of result ≡ claim_end (claiming self.old.settings (self.old.settings.maximum - length self.old.held.table) (state self.old.held (S.meaning store.old) clock.old ms)).result }
+        ensures counts { (ms : List (Result Manifest ℕ)) → counts_of counts.new ≡ counted_claim (counts_of counts.old) (claiming self.old.settings (self.old.settings.maximum - length self.old.held.table) (state self.old.held (S.meaning store.old) clock.old ms)).result (claiming self.old.settings (self.old.settings.maximum - length self.old.held.table) (state self.old.held (S.meaning store.old) clock.old ms)).stopped }
+        ensures after { (ms : List (Result Manifest ℕ)) → state self.new.held (S.meaning store.new) clock.new ms ≡ (claiming self.old.settings (self.old.settings.maximum - length self.old.held.table) (state self.old.held (S.meaning store.old) clock.old ms)).state }
         ensures settings { self.new.settings ≡ self.old.settings }
         ensures pending { PendingClaim self.new.settings.maximum self.new.held result }
     {

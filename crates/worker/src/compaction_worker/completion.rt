@@ -4,13 +4,14 @@ ghost use Rattle.table.specs.Ids.{number as id-number};
 ghost use Rattle.table.specs.Counted.{items_of};
 ghost use Rattle.compactions.specs.Meanings.{entry_of, run_of, sst_of};
 ghost use Rattle.compactions.specs.Trees.{Manifest};
-ghost use Rattle.executors.specs.Clocks.{readings_of};
 ghost use Rattle.worker_steps.specs.States.{state};
-ghost use Rattle.worker_steps.specs.Completions.{ssts, completed_as, completion_attempt, completing};
-ghost use Rattle.worker.specs.Settling.{settle_turn_of, settled_of};
+ghost use Rattle.worker_steps.specs.Completions.{ssts, completed_as, completing};
+ghost use Rattle.worker.specs.EntryWorks.{the_completion};
+ghost use Rattle.worker.specs.Settling.{settled_of};
 
 use super::CompactionWorker;
-use crate::settling::{SettleTurn, Settled, hand_in, own_entry};
+use crate::entry_work::EntryWork;
+use crate::settling::Settled;
 use compactions::compactor_state::{Compaction, CompactionStatus, WorkerSpec};
 use compactions::db_state::{NO_SST, SortedRun, SsTableId};
 use compactions::refusal::Refusal;
@@ -19,7 +20,12 @@ use executors::clock::ListClock;
 use executors::compactor_executor::CompactionExecutor;
 use stores::compactions_store::CompactionsStore;
 use table::ulid::Ulid;
-use worker_steps::fault::{During, Work, WorkerFault};
+use worker_steps::fault::{Work, WorkerFault};
+
+#[derive(Drop)]
+struct Completion {
+    outputs: Rows<SsTableId, 8>,
+}
 
 // The SSTs that the views of a run show.
 fn ssts_of(run: &SortedRun) -> Rows<SsTableId, 8>
@@ -32,47 +38,34 @@ fn ssts_of(run: &SortedRun) -> Rows<SsTableId, 8>
     ssts
 }
 
-fn completed(entry: Compaction, run: &SortedRun, worker: WorkerSpec) -> Compaction
-    ensures { entry_of result ≡ completed_as worker.worker_id worker.last_heartbeat_ms (ssts (run_of run.now)) (entry_of entry) }
+fn completed(entry: Compaction, outputs: Rows<SsTableId, 8>, worker: WorkerSpec) -> Compaction
+    ensures { entry_of result ≡ completed_as worker.worker_id worker.last_heartbeat_ms (map sst_of (items_of outputs)) (entry_of entry) }
 {
     let mut completed = entry;
     completed.status = CompactionStatus::Compacted;
-    completed.output_ssts = ssts_of(run);
+    completed.output_ssts = outputs;
     completed.worker = Some(worker);
     completed.ctx = None;
     completed
 }
 
-impl<E: CompactionExecutor> CompactionWorker<E> {
-    fn attempt_completion<S: CompactionsStore>(
-        &mut self,
-        store: &mut S,
-        clock: &mut ListClock,
-        id: Ulid,
-        run: &SortedRun,
-        attempt: u32,
-    ) -> Result<SettleTurn, WorkerFault>
-        ensures answer { (ms : List (Result Manifest ℕ)) → settle_turn_of result ≡ (completion_attempt self.old.settings (id-number id) (ssts (run_of run.now)) attempt (state self.old.held (S.meaning store.old) (readings_of clock.old) ms)).result }
-        ensures after { (ms : List (Result Manifest ℕ)) → state self.new.held (S.meaning store.new) (readings_of clock.new) ms ≡ (completion_attempt self.old.settings (id-number id) (ssts (run_of run.now)) attempt (state self.old.held (S.meaning store.old) (readings_of clock.old) ms)).state }
-        ensures settings { self.new.settings ≡ self.old.settings }
-    {
-        let during = During {
-            work: Work::Completion,
-            id: Some(id),
-            attempt,
-        };
-        let draft = self.read_for(store, during)?;
-        let Some(existing) = own_entry(&draft, id, self.number) else {
-            return Ok(SettleTurn::Dropped);
-        };
-        let worker = WorkerSpec {
-            worker_id: self.number,
-            last_heartbeat_ms: clock.stamp(),
-        };
-        hand_in(store, draft, completed(existing, run, worker), during)
+impl EntryWork for Completion {
+    ghost steps = { λ c. the_completion (map sst_of (items_of c.outputs)) };
+
+    fn work(&self) -> Work {
+        Work::Completion
     }
 
-    // Tried until an update lands, the entry is not the worker's, or the limit is reached.
+    fn changed(&self, entry: Compaction, number: u32, clock: &mut ListClock) -> Compaction {
+        let worker = WorkerSpec {
+            worker_id: number,
+            last_heartbeat_ms: clock.stamp(),
+        };
+        completed(entry, self.outputs, worker)
+    }
+}
+
+impl<E: CompactionExecutor> CompactionWorker<E> {
     pub(super) fn write_compacted<S: CompactionsStore>(
         &mut self,
         store: &mut S,
@@ -80,26 +73,13 @@ impl<E: CompactionExecutor> CompactionWorker<E> {
         id: Ulid,
         run: &SortedRun,
     ) -> Result<Settled, WorkerFault>
-        ensures answer { (ms : List (Result Manifest ℕ)) → settled_of result ≡ (completing self.old.settings (id-number id) (ssts (run_of run.now)) (state self.old.held (S.meaning store.old) (readings_of clock.old) ms)).result }
-        ensures after { (ms : List (Result Manifest ℕ)) → state self.new.held (S.meaning store.new) (readings_of clock.new) ms ≡ (completing self.old.settings (id-number id) (ssts (run_of run.now)) (state self.old.held (S.meaning store.old) (readings_of clock.old) ms)).state }
+        ensures answer { (ms : List (Result Manifest ℕ)) → settled_of result ≡ (completing self.old.settings (id-number id) (ssts (run_of run.now)) (state self.old.held (S.meaning store.old) clock.old ms)).result }
+        ensures after { (ms : List (Result Manifest ℕ)) → state self.new.held (S.meaning store.new) clock.new ms ≡ (completing self.old.settings (id-number id) (ssts (run_of run.now)) (state self.old.held (S.meaning store.old) clock.old ms)).state }
         ensures settings { self.new.settings ≡ self.old.settings }
     {
-        let limit = self.limit;
-        let mut attempt = 1;
-        'attempts: loop {
-            match self.attempt_completion(store, clock, id, run, attempt)? {
-                SettleTurn::Written => return Ok(Settled::Written),
-                SettleTurn::Dropped => return Ok(Settled::Dropped),
-                SettleTurn::Conflict => {}
-            }
-            if attempt >= limit {
-                return Err(WorkerFault::NotLanded(During {
-                    work: Work::Completion,
-                    id: Some(id),
-                    attempt,
-                }));
-            }
-            attempt += 1;
-        }
+        let completion = Completion {
+            outputs: ssts_of(run),
+        };
+        self.work_on_entry(store, clock, &completion, id)
     }
 }

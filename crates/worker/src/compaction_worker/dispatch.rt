@@ -3,7 +3,6 @@ ghost use Rattle.std.specs.Prelude.{◌≡◌, ℕ, ◌+◌, ◌≤◌, List, []
 ghost use Rattle.compactions.specs.Meanings.{entry_of, manifest_of};
 ghost use Rattle.compactions.specs.Trees.{Manifest as ManifestMeaning};
 ghost use Rattle.argument_check.specs.Check.{job_args};
-ghost use Rattle.executors.specs.Clocks.{Readings};
 ghost use Rattle.stores.specs.Records.{entry_id};
 ghost use Rattle.worker_steps.specs.States.{state};
 ghost use Rattle.worker_steps.specs.Tracking.{Tracked};
@@ -19,6 +18,7 @@ use crate::job_progress::Progress;
 use crate::polls::PollCounts;
 use argument_check::build_job_args;
 use compactions::manifest::Manifest;
+use executors::clock::ListClock;
 use executors::compactor_executor::CompactionExecutor;
 use stores::compactions_store::CompactionsStore;
 use worker_steps::fault::WorkerFault;
@@ -50,13 +50,14 @@ impl<E: CompactionExecutor> CompactionWorker<E> {
     fn settle<S: CompactionsStore>(
         &mut self,
         store: &mut S,
+        clock: &mut ListClock,
         manifest: &Manifest,
         claim: Claim,
         counts: &mut PollCounts,
     ) -> Result<(), Unreleased>
         requires pending { Tracked self.old.settings.maximum ((entry_of claim.entry).id ∷ []) self.old.held.table self.old.held.left }
         requires few { counts.old.started + counts.old.let_go ≤ 8 }
-        ensures step { SettleStep self.old.settings (manifest_of manifest.now) (entry_of claim.entry) result self.old.held (S.meaning store.old) (counts_of counts.old) self.new.held (S.meaning store.new) (counts_of counts.new) }
+        ensures step { SettleStep self.old.settings (manifest_of manifest.now) (entry_of claim.entry) result self.old.held (S.meaning store.old) clock.old (counts_of counts.old) self.new.held (S.meaning store.new) clock.new (counts_of counts.new) }
         ensures settings { self.new.settings ≡ self.old.settings }
     {
         match self.start(claim, manifest) {
@@ -64,7 +65,7 @@ impl<E: CompactionExecutor> CompactionWorker<E> {
                 counts.started += 1;
                 Ok(())
             }
-            Err(claim) => match self.release_claim(store, claim.entry().id) {
+            Err(claim) => match self.release_claim(store, clock, claim.entry().id) {
                 Ok(_) => {
                     claim.spend();
                     counts.let_go += 1;
@@ -80,19 +81,20 @@ impl<E: CompactionExecutor> CompactionWorker<E> {
     pub(super) fn dispatch<S: CompactionsStore>(
         &mut self,
         store: &mut S,
+        clock: &mut ListClock,
         manifest: &Manifest,
         mut claims: Claims,
         counts: &mut PollCounts,
     ) -> Result<(), WorkerFault>
         requires pending { Tracked self.old.settings.maximum (map entry_id (waiting claims)) self.old.held.table self.old.held.left }
         requires fresh { (counts.old.started ≡ 0) × ((counts.old.let_go ≡ 0) × (counts.old.left ≡ 0)) }
-        ensures answer { (k : Readings) (ms : List (Result ManifestMeaning ℕ)) → dispatch_of result (counts_of counts.new) ≡ (dispatching self.old.settings (manifest_of manifest.now) (waiting claims) (state self.old.held (S.meaning store.old) k ms)).result }
-        ensures after { (k : Readings) (ms : List (Result ManifestMeaning ℕ)) → state self.new.held (S.meaning store.new) k ms ≡ (dispatching self.old.settings (manifest_of manifest.now) (waiting claims) (state self.old.held (S.meaning store.old) k ms)).state }
+        ensures answer { (ms : List (Result ManifestMeaning ℕ)) → dispatch_of result (counts_of counts.new) ≡ (dispatching self.old.settings (manifest_of manifest.now) (waiting claims) (state self.old.held (S.meaning store.old) clock.old ms)).result }
+        ensures after { (ms : List (Result ManifestMeaning ℕ)) → state self.new.held (S.meaning store.new) clock.new ms ≡ (dispatching self.old.settings (manifest_of manifest.now) (waiting claims) (state self.old.held (S.meaning store.old) clock.old ms)).state }
         ensures claimed { (counts.new.claimed ≡ counts.old.claimed) × (counts.new.stopped ≡ counts.old.stopped) }
         ensures settings { self.new.settings ≡ self.old.settings }
     {
         while let Some(claim) = claims.take() {
-            if let Err(unreleased) = self.settle(store, manifest, claim, counts) {
+            if let Err(unreleased) = self.settle(store, clock, manifest, claim, counts) {
                 let Unreleased { claim, fault } = unreleased;
                 counts.left = claims.count() + 1;
                 self.leave(claim.spend());

@@ -4,7 +4,6 @@ ghost use Rattle.table.specs.Ids.{number as id-number};
 ghost use Rattle.table.specs.Tables.{holds};
 ghost use Rattle.compactions.specs.Meanings.{context_of};
 ghost use Rattle.compactions.specs.Trees.{Manifest};
-ghost use Rattle.executors.specs.Clocks.{readings_of};
 ghost use Rattle.executors.specs.Executors.{finished};
 ghost use Rattle.executors.specs.Notices.{outcome_of, notice_of};
 ghost use Rattle.worker_steps.specs.States.{row_id, state};
@@ -42,13 +41,13 @@ impl<E: CompactionExecutor> CompactionWorker<E> {
         id: Ulid,
         res: Result<SortedRun, u32>,
     ) -> Result<Settled, WorkerFault>
-        ensures answer { (ms : List (Result Manifest ℕ)) → settled_of result ≡ (settling self.old.settings (id-number id) (outcome_of res) (state self.old.held (S.meaning store.old) (readings_of clock.old) ms)).result }
-        ensures after { (ms : List (Result Manifest ℕ)) → state self.new.held (S.meaning store.new) (readings_of clock.new) ms ≡ (settling self.old.settings (id-number id) (outcome_of res) (state self.old.held (S.meaning store.old) (readings_of clock.old) ms)).state }
+        ensures answer { (ms : List (Result Manifest ℕ)) → settled_of result ≡ (settling self.old.settings (id-number id) (outcome_of res) (state self.old.held (S.meaning store.old) clock.old ms)).result }
+        ensures after { (ms : List (Result Manifest ℕ)) → state self.new.held (S.meaning store.new) clock.new ms ≡ (settling self.old.settings (id-number id) (outcome_of res) (state self.old.held (S.meaning store.old) clock.old ms)).state }
         ensures settings { self.new.settings ≡ self.old.settings }
     {
         match res {
             Ok(run) => self.write_compacted(store, clock, id, &run),
-            Err(_) => self.release_claim(store, id),
+            Err(_) => self.release_claim(store, clock, id),
         }
     }
 
@@ -61,8 +60,8 @@ impl<E: CompactionExecutor> CompactionWorker<E> {
         id: Ulid,
         res: Result<SortedRun, u32>,
     ) -> Result<Settled, WorkerFault>
-        ensures answer { (ms : List (Result Manifest ℕ)) → noticed_by (settled_of result) ≡ (handled self.old.settings (finished (id-number id) (outcome_of res)) (state self.old.held (S.meaning store.old) (readings_of clock.old) ms)).result }
-        ensures after { (ms : List (Result Manifest ℕ)) → state self.new.held (S.meaning store.new) (readings_of clock.new) ms ≡ (handled self.old.settings (finished (id-number id) (outcome_of res)) (state self.old.held (S.meaning store.old) (readings_of clock.old) ms)).state }
+        ensures answer { (ms : List (Result Manifest ℕ)) → noticed_by (settled_of result) ≡ (handled self.old.settings (finished (id-number id) (outcome_of res)) (state self.old.held (S.meaning store.old) clock.old ms)).result }
+        ensures after { (ms : List (Result Manifest ℕ)) → state self.new.held (S.meaning store.new) clock.new ms ≡ (handled self.old.settings (finished (id-number id) (outcome_of res)) (state self.old.held (S.meaning store.old) clock.old ms)).state }
         ensures settings { self.new.settings ≡ self.old.settings }
     {
         if !self.owned.strike_row(id) {
@@ -83,8 +82,8 @@ impl<E: CompactionExecutor> CompactionWorker<E> {
         clock: &mut ListClock,
         message: WorkerMessage,
     ) -> NoticeAnswer
-        ensures answer { (ms : List (Result Manifest ℕ)) → noticed_of result ≡ (handled self.old.settings (notice_of message) (state self.old.held (S.meaning store.old) (readings_of clock.old) ms)).result }
-        ensures after { (ms : List (Result Manifest ℕ)) → state self.new.held (S.meaning store.new) (readings_of clock.new) ms ≡ (handled self.old.settings (notice_of message) (state self.old.held (S.meaning store.old) (readings_of clock.old) ms)).state }
+        ensures answer { (ms : List (Result Manifest ℕ)) → noticed_of result ≡ (handled self.old.settings (notice_of message) (state self.old.held (S.meaning store.old) clock.old ms)).result }
+        ensures after { (ms : List (Result Manifest ℕ)) → state self.new.held (S.meaning store.new) clock.new ms ≡ (handled self.old.settings (notice_of message) (state self.old.held (S.meaning store.old) clock.old ms)).state }
         ensures settings { self.new.settings ≡ self.old.settings }
     {
         match message {
@@ -113,7 +112,7 @@ impl<E: CompactionExecutor> CompactionWorker<E> {
         store: &mut S,
         clock: &mut ListClock,
     ) -> NoticeAnswer
-        ensures steps { Noticing self.old.settings (state self.old.held (S.meaning store.old) (readings_of clock.old)) (noticed_of result) (state self.new.held (S.meaning store.new) (readings_of clock.new)) }
+        ensures steps { Noticing self.old.settings (state self.old.held (S.meaning store.old) clock.old) (noticed_of result) (state self.new.held (S.meaning store.new) clock.new) }
         ensures settings { self.new.settings ≡ self.old.settings }
     {
         match self.ensure_loaded(store) {

@@ -1,7 +1,6 @@
 // A poll: the first look, the claim, one manifest, and what becomes of the claimed entries.
 ghost use Rattle.std.specs.Prelude.{◌≡◌, ℕ, map, length};
-ghost use Rattle.executors.specs.Clocks.{Readings, readings_of};
-ghost use Rattle.executors.specs.Manifests.{answers_of, given, behind};
+ghost use Rattle.executors.specs.Manifests.{given, behind};
 ghost use Rattle.stores.specs.Records.{entry_id};
 ghost use Rattle.worker_steps.specs.States.{state};
 ghost use Rattle.worker_steps.specs.Tracking.{Tracked};
@@ -23,20 +22,21 @@ impl<E: CompactionExecutor> CompactionWorker<E> {
     fn after_claim<S: CompactionsStore>(
         &mut self,
         store: &mut S,
+        clock: &mut ListClock,
         manifests: &mut ListManifests,
         landed: LandedClaims,
         counts: &mut PollCounts,
     ) -> Result<(), WorkerFault>
         requires pending { Tracked self.old.settings.maximum (map entry_id (waiting landed.claims)) self.old.held.table self.old.held.left }
         requires fresh { (counts.old.started ≡ 0) × ((counts.old.let_go ≡ 0) × (counts.old.left ≡ 0)) }
-        ensures answer { (k : Readings) → dispatch_of result (counts_of counts.new) ≡ (dispatch_given self.old.settings landed.attempt (given (answers_of manifests.old)) (waiting landed.claims) (state self.old.held (S.meaning store.old) k (behind (answers_of manifests.old)))).result }
-        ensures after { (k : Readings) → state self.new.held (S.meaning store.new) k (answers_of manifests.new) ≡ (dispatch_given self.old.settings landed.attempt (given (answers_of manifests.old)) (waiting landed.claims) (state self.old.held (S.meaning store.old) k (behind (answers_of manifests.old)))).state }
+        ensures answer { dispatch_of result (counts_of counts.new) ≡ (dispatch_given self.old.settings landed.attempt (given manifests.old) (waiting landed.claims) (state self.old.held (S.meaning store.old) clock.old (behind manifests.old))).result }
+        ensures after { state self.new.held (S.meaning store.new) clock.new manifests.new ≡ (dispatch_given self.old.settings landed.attempt (given manifests.old) (waiting landed.claims) (state self.old.held (S.meaning store.old) clock.old (behind manifests.old))).state }
         ensures claimed { (counts.new.claimed ≡ counts.old.claimed) × (counts.new.stopped ≡ counts.old.stopped) }
         ensures settings { self.new.settings ≡ self.old.settings }
     {
         let LandedClaims { claims, attempt } = landed;
         match manifests.read() {
-            Ok(manifest) => self.dispatch(store, &manifest, claims, counts),
+            Ok(manifest) => self.dispatch(store, clock, &manifest, claims, counts),
             Err(cause) => {
                 counts.left = claims.count();
                 self.leave_all(claims);
@@ -59,8 +59,8 @@ impl<E: CompactionExecutor> CompactionWorker<E> {
         counts: &mut PollCounts,
     ) -> Result<bool, WorkerFault>
         requires { counts_of counts.old ≡ record { claimed = 0; started = 0; let_go = 0; left = 0; stopped = 0 } }
-        ensures answer { poll_answer_by (works_ended result) (counts_of counts.new) ≡ (poll-steps self.old.settings (state self.old.held (S.meaning store.old) (readings_of clock.old) (answers_of manifests.old))).result }
-        ensures after { state self.new.held (S.meaning store.new) (readings_of clock.new) (answers_of manifests.new) ≡ (poll-steps self.old.settings (state self.old.held (S.meaning store.old) (readings_of clock.old) (answers_of manifests.old))).state }
+        ensures answer { poll_answer_by (works_ended result) (counts_of counts.new) ≡ (poll-steps self.old.settings (state self.old.held (S.meaning store.old) clock.old manifests.old)).result }
+        ensures after { state self.new.held (S.meaning store.new) clock.new manifests.new ≡ (poll-steps self.old.settings (state self.old.held (S.meaning store.old) clock.old manifests.old)).state }
         ensures settings { self.new.settings ≡ self.old.settings }
     {
         if !self.ensure_loaded(store)? {
@@ -69,7 +69,7 @@ impl<E: CompactionExecutor> CompactionWorker<E> {
         let Some(landed) = self.claim(store, clock, counts)? else {
             return Ok(true);
         };
-        self.after_claim(store, manifests, landed, counts)?;
+        self.after_claim(store, clock, manifests, landed, counts)?;
         Ok(true)
     }
 
@@ -80,8 +80,8 @@ impl<E: CompactionExecutor> CompactionWorker<E> {
         clock: &mut ListClock,
         manifests: &mut ListManifests,
     ) -> PollAnswer
-        ensures answer { poll_answer_of result ≡ (poll-steps self.old.settings (state self.old.held (S.meaning store.old) (readings_of clock.old) (answers_of manifests.old))).result }
-        ensures after { state self.new.held (S.meaning store.new) (readings_of clock.new) (answers_of manifests.new) ≡ (poll-steps self.old.settings (state self.old.held (S.meaning store.old) (readings_of clock.old) (answers_of manifests.old))).state }
+        ensures answer { poll_answer_of result ≡ (poll-steps self.old.settings (state self.old.held (S.meaning store.old) clock.old manifests.old)).result }
+        ensures after { state self.new.held (S.meaning store.new) clock.new manifests.new ≡ (poll-steps self.old.settings (state self.old.held (S.meaning store.old) clock.old manifests.old)).state }
         ensures settings { self.new.settings ≡ self.old.settings }
     {
         let mut counts = PollCounts::new();

@@ -6,7 +6,6 @@ use Rattle.table.specs.Counted.{items_of}
 use Rattle.compactions.specs.Entries.{Entry}
 use Rattle.compactions.specs.Meanings.{entry_of}
 use Rattle.compactions.specs.Trees.{Manifest}
-use Rattle.executors.specs.Clocks.{readings_of}
 use Rattle.stores.specs.Records.{entry_id}
 use Rattle.stores.specs.Stores.{read, got, UpdateAnswer, unwritten, update}
 use Rattle.stores.specs.Meanings.{draft_of, fault_of as store-fault-of}
@@ -28,7 +27,7 @@ use Rattle.worker.proofs.compaction_worker.CompactionWorker.attempt_claim.Goals.
 
 -- the attempt, as it is defined
 abbrev attempt : (g : given.Over) (c : After-choose-stopped g) → List (Result Manifest ℕ) → Effect (Turn Claimed)
-attempt g c ms = claim_attempt c.args.self.now.settings c.args.capacity c.args.attempt (state c.args.self.now.held (g.S.CompactionsStore.meaning c.args.store.now) (readings_of c.args.clock.now) ms)
+attempt g c ms = claim_attempt c.args.self.now.settings c.args.capacity c.args.attempt (state c.args.self.now.held (g.S.CompactionsStore.meaning c.args.store.now) c.args.clock.now ms)
 
 -- the record that the attempt read
 found : (g : given.Over) (c : After-choose-stopped g) → (read (g.S.CompactionsStore.meaning c.args.store.now)).answer ≡ got (draft_of c.in_ok-draft.draft)
@@ -66,7 +65,7 @@ pub returns-then-is_empty : goal.returns-then-is_empty
 returns-then-is_empty g c =
     let b = (goal.at.returns-then-is_empty g c).After-choose-stopped in
     let none : chosen_of c.choose-stopped.result ≡ [] = ap (map entry_of) (sym c.as_slice.ensures ∙ nil_from_length _ (true-eqb _ 0 c.if-is_empty.ensures)) in
-    let e = λ (ms : List (Result Manifest ℕ)). attempt_none c.args.self.now.settings c.args.capacity c.args.attempt c.args.self.now.held (g.S.CompactionsStore.meaning c.args.store.now) (readings_of c.args.clock.now) ms _ _ c.read_for.ensures.held c.read_for.ensures.store _ (found g b) _ _ _ c.choose-stopped.ensures.chosen c.choose-stopped.ensures.stopped c.choose-stopped.ensures.held none in
+    let e = λ (ms : List (Result Manifest ℕ)). attempt_none c.args.self.now.settings c.args.capacity c.args.attempt c.args.self.now.held (g.S.CompactionsStore.meaning c.args.store.now) c.args.clock.now ms _ _ c.read_for.ensures.held c.read_for.ensures.store _ (found g b) _ _ _ c.choose-stopped.ensures.chosen c.choose-stopped.ensures.stopped c.choose-stopped.ensures.held none in
     record {
       answer = λ ms. sym (ap (λ x. turn_end x.result) (e ms));
       counts = counts_by (attempt g b) (ends none_chosen) _ (λ ms. ap (λ x. x.result) (e ms)) (λ ms. ap (λ x. x.stopped) (e ms)) (counts_of c.args.counts.now) _ _ c.requires.fresh.0 c.requires.fresh.1;
@@ -115,8 +114,8 @@ module _ (g : given.Over) (c : After-update g) (ua : UpdateAnswer) (answered : u
   abbrev b : After-choose-stopped g
   b = (goal.at.After-update g c).After-choose-stopped
 
-  sent_at : Sent (attempt g b ms) (on_update ua (landed_at c.args.attempt (chosen_of c.choose-stopped.result)) (λ f. broken (fault (store_failed f) claim None c.args.attempt) (chosen_of c.choose-stopped.result))) (state (list_if_faulted ua (chosen_of c.choose-stopped.result) c.choose-stopped.new.self.held) (g.S.CompactionsStore.meaning c.update.new.self) (readings_of c.stamp.new.self) ms) c.choose-stopped.result.stopped
-  sent_at = sent c.args.self.now.settings c.args.capacity c.args.attempt c.args.self.now.held (g.S.CompactionsStore.meaning c.args.store.now) (readings_of c.args.clock.now) ms _ _ c.read_for.ensures.held c.read_for.ensures.store (draft_of c.in_ok-draft.draft) (found g b) _ _ _ c.choose-stopped.ensures.chosen c.choose-stopped.ensures.stopped c.choose-stopped.ensures.held (some_chosen g c) c.stamp.result _ _ ua _ c.stamp.ensures.value c.stamp.ensures.after (handed_in g c) answered c.update.ensures.after
+  sent_at : Sent (attempt g b ms) (on_update ua (landed_at c.args.attempt (chosen_of c.choose-stopped.result)) (λ f. broken (fault (store_failed f) claim None c.args.attempt) (chosen_of c.choose-stopped.result))) (state (list_if_faulted ua (chosen_of c.choose-stopped.result) c.choose-stopped.new.self.held) (g.S.CompactionsStore.meaning c.update.new.self) c.stamp.new.self ms) c.choose-stopped.result.stopped
+  sent_at = sent c.args.self.now.settings c.args.capacity c.args.attempt c.args.self.now.held (g.S.CompactionsStore.meaning c.args.store.now) c.args.clock.now ms _ _ c.read_for.ensures.held c.read_for.ensures.store (draft_of c.in_ok-draft.draft) (found g b) _ _ _ c.choose-stopped.ensures.chosen c.choose-stopped.ensures.stopped c.choose-stopped.ensures.held (some_chosen g c) c.stamp.result _ _ ua _ c.stamp.ensures.value c.stamp.ensures.after (handed_in g c) answered c.update.ensures.after
 
 pub returns-in-Ok-Landed-clause-pending : goal.returns-in-Ok-Landed-clause-pending
 returns-in-Ok-Landed-clause-pending g c =
@@ -156,7 +155,7 @@ returns-in-Err g c =
     record {
       answer = answer_by (attempt g b) (ends (broken (fault (store_failed f) claim None c.args.attempt) cs)) _ (λ ms. (sent_at g u (unwritten f) said ms).result) (λ ms. (sent_at g u (unwritten f) said ms).stopped) _ refl;
       counts = counts_by (attempt g b) (ends (broken (fault (store_failed f) claim None c.args.attempt) cs)) _ (λ ms. (sent_at g u (unwritten f) said ms).result) (λ ms. (sent_at g u (unwritten f) said ms).stopped) (counts_of c.args.counts.now) _ _ (how_many g u) (how_many g u);
-      after = λ ms. ap (λ x. state x (g.S.CompactionsStore.meaning c.update.new.self) (readings_of c.stamp.new.self) ms) kept ∙ sym (sent_at g u (unwritten f) said ms).state;
+      after = λ ms. ap (λ x. state x (g.S.CompactionsStore.meaning c.update.new.self) c.stamp.new.self ms) kept ∙ sym (sent_at g u (unwritten f) said ms).state;
       settings = c.leave_all.ensures.settings ∙ same_settings g b;
       pending = tt;
       room = omega (arith, room_at g b, max, same);

@@ -1,7 +1,6 @@
 use Rattle.std.proofs.Common.{◌≡◌, ℕ, ◌-◌, ◌≤◌, List, [], length, None, Ok, Result, sym, refl, ap, ◌∙◌, subst, arith}
 use Rattle.std.proofs.lemmas.Result.{err_from_is_err_and}
 use Rattle.compactions.specs.Trees.{Manifest}
-use Rattle.executors.specs.Clocks.{readings_of}
 use Rattle.worker_steps.specs.Faults.{fault, not_landed, claim}
 use Rattle.worker_steps.specs.States.{State, state}
 use Rattle.worker_steps.specs.Tracking.{Tracked}
@@ -46,7 +45,7 @@ attempt_claim-requires g c =
 -- a claim that ended, by the capacity that it took
 module _ (g : given.Over) (c : After-capacity-capacity g) (e : ClaimEnd) (n : Counts) (v : List (Result Manifest ℕ) → State) where
   abbrev whole : ℕ → List (Result Manifest ℕ) → Effect Claimed
-  whole k ms = claiming c.args.self.now.settings k (state c.args.self.now.held (g.S.CompactionsStore.meaning c.args.store.now) (readings_of c.args.clock.now) ms)
+  whole k ms = claiming c.args.self.now.settings k (state c.args.self.now.held (g.S.CompactionsStore.meaning c.args.store.now) c.args.clock.now ms)
 
   at_capacity : Ended (whole c.capacity-capacity.result) e (counts_of c.args.counts.now) n v → Ended (whole (c.args.self.now.settings.maximum - length c.args.self.now.held.table)) e (counts_of c.args.counts.now) n v
   at_capacity z = record {

@@ -1,5 +1,4 @@
 use Rattle.std.proofs.Common.{◌≡◌, ◌+◌, ◌-◌, ◌≤◌, [], length}
-use Rattle.executors.specs.Clocks.{readings_of}
 use Rattle.worker_steps.specs.States.{state}
 use Rattle.worker_steps.specs.Tracking.{Tracked}
 use Rattle.worker_steps.specs.Claims.{claiming}
@@ -13,7 +12,7 @@ invariant-attempts g l =
     let s = l.initial.self.settings in
     let h₀ = l.initial.self.held in
     let h = l.self.held in
-    Claiming s l.capacity l.attempt (λ ms. claiming s l.capacity (state h₀ (m.meaning l.initial.store) (readings_of l.initial.clock) ms)) h (m.meaning l.store) (readings_of l.clock) (counts_of l.initial.counts) (counts_of l.counts)
+    Claiming s l.capacity l.attempt (λ ms. claiming s l.capacity (state h₀ (m.meaning l.initial.store) l.initial.clock ms)) h (m.meaning l.store) l.clock (counts_of l.initial.counts) (counts_of l.counts)
     × (l.self.settings ≡ s)
     × (l.capacity + length h.table ≤ l.self.settings.maximum)
     × Tracked l.self.settings.maximum [] h.table h.left

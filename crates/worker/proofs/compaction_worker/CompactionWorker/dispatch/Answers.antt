@@ -16,7 +16,7 @@ use Rattle.worker.proofs.compaction_worker.CompactionWorker.dispatch.Goals as go
 use Rattle.worker.proofs.compaction_worker.CompactionWorker.dispatch.Goals.{After-settle, In-Err}
 
 pub loop-claim-init : goal.loop-claim-init
-loop-claim-init g c = (dispatching_none _ _ _ _ _ _ (counts_of c.args.counts.now) (few_wait c.args.claims) c.requires.pending c.requires.fresh.0 c.requires.fresh.1.0 c.requires.fresh.1.1, refl)
+loop-claim-init g c = (dispatching_none _ _ _ _ _ _ _ (counts_of c.args.counts.now) (few_wait c.args.claims) c.requires.pending c.requires.fresh.0 c.requires.fresh.1.0 c.requires.fresh.1.1, refl)
 
 -- the claim that was taken, before those that wait
 first : (g : given.Over) (c : After-settle g) → waiting c.loop-claim.claims ≡ entry_of c.in-Some.claim.entry ∷ waiting c.take.new.self
@@ -26,7 +26,7 @@ pub loop-claim-preserved : goal.loop-claim-preserved
 loop-claim-preserved g c =
     let b = (goal.at.loop-claim-preserved g c).After-settle in
     let max : c.settle.new.self.settings.maximum ≡ c.loop-claim.self.settings.maximum = ap (λ s. s.maximum) c.settle.ensures.settings in (
-      rw max (dispatching_more (entry_of c.in-Some.claim.entry) _ _ _ _ _ c.loop-claim.invariant.0 (first g b) c.loop-claim.invariant.1 c.in_default-settle.ensures.step),
+      rw max (dispatching_more (entry_of c.in-Some.claim.entry) _ _ _ _ _ _ c.loop-claim.invariant.0 (first g b) c.loop-claim.invariant.1 c.in_default-settle.ensures.step),
       c.settle.ensures.settings ∙ c.loop-claim.invariant.1,
     )
 
@@ -35,7 +35,7 @@ pending_at : (g : given.Over) (c : In-Err g) → Tracked c.settle.new.self.setti
 pending_at g c =
     let b = (goal.at.In-Err g c).After-settle in
     let max : c.settle.new.self.settings.maximum ≡ c.loop-claim.self.settings.maximum = ap (λ s. s.maximum) c.settle.ensures.settings in
-    rw max (stuck_pending (entry_of c.in-Some.claim.entry) _ _ _ _ _ _ c.loop-claim.invariant.0 (first g b) c.loop-claim.invariant.1 c.in-Err.ensures.step)
+    rw max (stuck_pending (entry_of c.in-Some.claim.entry) _ _ _ _ _ _ _ c.loop-claim.invariant.0 (first g b) c.loop-claim.invariant.1 c.in-Err.ensures.step)
 
 pub leave-requires : goal.leave-requires
 leave-requires g c =
@@ -63,8 +63,8 @@ returns-in-Err g c =
     let held = c.leave_all.ensures.held ∙ ap (λ x. with_left x (joined es x.left)) (c.leave.ensures.held ∙ ap (λ j. with_left h (put self_id j h.left)) i) in
     let frame = c.loop-claim.invariant.0.frame in
     record {
-      answer = dispatched_stuck e es _ _ _ _ _ c.loop-claim.invariant.0 (first g a) c.loop-claim.invariant.1 one _ (ap (λ n. n + 1) c.count.ensures);
-      after = λ k ms. ap (λ x. state x st k ms) held ∙ dispatched_stuck_after e es _ _ _ _ _ c.loop-claim.invariant.0 (first g a) c.loop-claim.invariant.1 one k ms;
+      answer = dispatched_stuck e es _ _ _ _ _ _ c.loop-claim.invariant.0 (first g a) c.loop-claim.invariant.1 one _ (ap (λ n. n + 1) c.count.ensures);
+      after = λ ms. ap (λ x. state x st c.settle.new.clock ms) held ∙ dispatched_stuck_after e es _ _ _ _ _ _ c.loop-claim.invariant.0 (first g a) c.loop-claim.invariant.1 one ms;
       claimed = (ap (λ x. x.claimed) (one.counts ∙ frame), ap (λ x. x.stopped) (one.counts ∙ frame));
       settings = c.leave_all.ensures.settings ∙ c.leave.ensures.settings ∙ c.settle.ensures.settings ∙ c.loop-claim.invariant.1;
     }

@@ -13,7 +13,7 @@ invariant-loop-claim g l =
     let s = l.initial.self.settings in
     let h₀ = l.initial.self.held in
     let h = l.self.held in
-    Dispatching s (manifest_of l.manifest) (λ k ms. dispatching s (manifest_of l.manifest) (waiting l.initial.claims) (state h₀ (m.meaning l.initial.store) k ms)) l.self.settings.maximum (waiting l.claims) h (m.meaning l.store) (counts_of l.initial.counts) (counts_of l.counts)
+    Dispatching s (manifest_of l.manifest) (λ ms. dispatching s (manifest_of l.manifest) (waiting l.initial.claims) (state h₀ (m.meaning l.initial.store) l.initial.clock ms)) l.self.settings.maximum (waiting l.claims) h (m.meaning l.store) l.clock (counts_of l.initial.counts) (counts_of l.counts)
     × (l.self.settings ≡ s)
 
 abbrev pub decreases-loop-claim : goal.decreases-loop-claim

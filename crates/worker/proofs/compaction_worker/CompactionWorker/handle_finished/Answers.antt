@@ -2,7 +2,6 @@ use Rattle.std.proofs.Common.{◌≡◌, ℕ, false, List, [], Result, sym, refl
 use Rattle.table.specs.Ids.{number}
 use Rattle.table.specs.Tables.{holds}
 use Rattle.compactions.specs.Trees.{Manifest}
-use Rattle.executors.specs.Clocks.{readings_of}
 use Rattle.executors.specs.Notices.{outcome_of}
 use Rattle.worker_steps.specs.States.{row_id, Held, State, state}
 use Rattle.worker_steps.specs.Effects.{Effect, effect_free}
@@ -21,7 +20,7 @@ returns-then-not-strike_row g c =
     let i = number c.args.id in
     let h = c.args.self.now.held in
     let st = g.S.CompactionsStore.meaning c.args.store.now in
-    let ck = readings_of c.args.clock.now in
+    let ck = c.args.clock.now in
     let none : holds row_id i w.owned.table ≡ false = sym c.if-not-strike_row.ensures.value in
     let gone = λ (ms : List (Result Manifest ℕ)). at_false {X = Effect Noticed} (holds row_id i h.table) _ (effect_free entry_dropped (state h st ck ms)) (sym (ap (λ (x : Worker _). holds row_id i x.held.table) c.self.view_is) ∙ none) in
     let kept : c.strike_row.new.self ≡ w.owned = c.strike_row.ensures.after ∙ ap (with_table w.owned) (strike_missing row_id i w.owned.table none) in

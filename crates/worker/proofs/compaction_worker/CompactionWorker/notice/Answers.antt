@@ -1,6 +1,5 @@
 use Rattle.std.proofs.Common.{◌≡◌, ℕ, List, Some, Ok, Result, sym, ap, ◌∙◌}
 use Rattle.compactions.specs.Trees.{Manifest}
-use Rattle.executors.specs.Clocks.{readings_of}
 use Rattle.executors.specs.Executors.{names_running, left_by}
 use Rattle.executors.specs.Notices.{notice_of}
 use Rattle.worker_steps.specs.States.{with_jobs, state}
@@ -21,7 +20,7 @@ returns g c =
     let h₁ = c.ensure_loaded.new.self.held in
     let st = g.S.CompactionsStore.meaning c.args.store.now in
     let st₁ = g.S.CompactionsStore.meaning c.ensure_loaded.new.store in
-    let ck = readings_of c.args.clock.now in
+    let ck = c.args.clock.now in
     let took = c.in-Some.ensures in
     let found = λ (ms : List (Result Manifest ℕ)). sym (ap (λ b. opened_of (Ok b)) c.if-not-loaded.false) ∙ c.in-Ok.ensures.found ck ms in
     let looked = λ (ms : List (Result Manifest ℕ)). c.in-Ok.ensures.after ck ms in

@@ -1,10 +1,9 @@
-use Rattle.std.proofs.Common.{◌≡◌, ℕ, Bool, true, false, cond, List, [], pos, Some, None, Ok, Result, sym, refl, ap, ◌∙◌, arith}
+use Rattle.std.proofs.Common.{◌≡◌, ℕ, Bool, true, false, cond, List, [], Some, None, Ok, Result, sym, refl, ap, ◌∙◌, arith}
 use Rattle.table.specs.Ids.{number}
 use Rattle.compactions.specs.Entries.{Entry}
 use Rattle.compactions.specs.Meanings.{entry_of, manifest_of}
 use Rattle.compactions.specs.Trees.{Manifest}
 use Rattle.argument_check.specs.Check.{job_args}
-use Rattle.executors.specs.Clocks.{Readings}
 use Rattle.worker_steps.specs.Faults.{Fault, fault_of}
 use Rattle.worker_steps.specs.States.{state}
 use Rattle.worker_steps.specs.Releases.{releasing, stuck}
@@ -33,10 +32,6 @@ not_stuck : (x : Settled) (f : Fault) → settled_of (Ok x) ≡ stuck f → ⊥
 not_stuck Written f e = let z : ◌≡◌ {A = ℕ} 0 1 = cc in omega arith
 not_stuck Dropped f e = let z : ◌≡◌ {A = ℕ} 0 1 = cc in omega arith
 
--- any clock
-abbrev some_clock : Readings
-some_clock = record { ahead = []; last = pos 0 }
-
 pub returns-in-Ok : goal.returns-in-Ok
 returns-in-Ok g c =
     let s = c.args.self.now.settings in
@@ -44,13 +39,14 @@ returns-in-Ok g c =
     let e = entry_of c.args.claim.entry in
     let h = c.args.self.now.held in
     let st = g.S.CompactionsStore.meaning c.args.store.now in
+    let ck = c.args.clock.now in
     let yes' = kept_none (may_run s.places (job_args e m) h.jobs) e c.in-Ok.ensures.answer in
     let held = c.in-Ok.ensures.held ∙ ap (λ b. cond b (with_started e (job_args e m) h) h) yes' in
     record {
       step = record {
-        result = started_result s m e h st yes' _ held (counts_of c.args.counts.now);
-        after = started_after s m e h st yes' _ held;
-        tracked = started_tracked s m e h st yes' _ held;
+        result = started_result s m e h st ck yes' _ held (counts_of c.args.counts.now);
+        after = started_after s m e h st ck yes' _ held;
+        tracked = started_tracked s m e h st ck yes' _ held;
         frame = refl;
         few = omega arith;
       };
@@ -68,18 +64,18 @@ module _ (g : given.Over) (c : After-release_claim g) where
   same_id = ap (λ x. number x.id) c.entry.ensures ∙ ap (λ x. x.id) refused.1
 
   -- the release was that of this entry, from this state
-  module _ (k : Readings) (ms : List (Result Manifest ℕ)) where
-    whole : releasing c.start.new.self.settings (number c.entry.result.now.id) (state c.start.new.self.held (g.S.CompactionsStore.meaning c.args.store.now) k ms) ≡ releasing c.args.self.now.settings (entry_of c.args.claim.entry).id (state c.args.self.now.held (g.S.CompactionsStore.meaning c.args.store.now) k ms)
+  module _ (ms : List (Result Manifest ℕ)) where
+    whole : releasing c.start.new.self.settings (number c.entry.result.now.id) (state c.start.new.self.held (g.S.CompactionsStore.meaning c.args.store.now) c.args.clock.now ms) ≡ releasing c.args.self.now.settings (entry_of c.args.claim.entry).id (state c.args.self.now.held (g.S.CompactionsStore.meaning c.args.store.now) c.args.clock.now ms)
     whole =
-        ap (λ s. releasing s (number c.entry.result.now.id) (state c.start.new.self.held (g.S.CompactionsStore.meaning c.args.store.now) k ms)) c.start.ensures.settings
-        ∙ ap (λ i. releasing c.args.self.now.settings i (state c.start.new.self.held (g.S.CompactionsStore.meaning c.args.store.now) k ms)) same_id
-        ∙ ap (λ h. releasing c.args.self.now.settings (entry_of c.args.claim.entry).id (state h (g.S.CompactionsStore.meaning c.args.store.now) k ms)) same_held
+        ap (λ s. releasing s (number c.entry.result.now.id) (state c.start.new.self.held (g.S.CompactionsStore.meaning c.args.store.now) c.args.clock.now ms)) c.start.ensures.settings
+        ∙ ap (λ i. releasing c.args.self.now.settings i (state c.start.new.self.held (g.S.CompactionsStore.meaning c.args.store.now) c.args.clock.now ms)) same_id
+        ∙ ap (λ h. releasing c.args.self.now.settings (entry_of c.args.claim.entry).id (state h (g.S.CompactionsStore.meaning c.args.store.now) c.args.clock.now ms)) same_held
 
-    answered : settled_of c.release_claim.result ≡ (releasing c.args.self.now.settings (entry_of c.args.claim.entry).id (state c.args.self.now.held (g.S.CompactionsStore.meaning c.args.store.now) k ms)).result
-    answered = c.release_claim.ensures.answer k ms ∙ ap (λ x. x.result) whole
+    answered : settled_of c.release_claim.result ≡ (releasing c.args.self.now.settings (entry_of c.args.claim.entry).id (state c.args.self.now.held (g.S.CompactionsStore.meaning c.args.store.now) c.args.clock.now ms)).result
+    answered = c.release_claim.ensures.answer ms ∙ ap (λ x. x.result) whole
 
-    left_at : state c.release_claim.new.self.held (g.S.CompactionsStore.meaning c.release_claim.new.store) k ms ≡ (releasing c.args.self.now.settings (entry_of c.args.claim.entry).id (state c.args.self.now.held (g.S.CompactionsStore.meaning c.args.store.now) k ms)).state
-    left_at = c.release_claim.ensures.after k ms ∙ ap (λ x. x.state) whole
+    left_at : state c.release_claim.new.self.held (g.S.CompactionsStore.meaning c.release_claim.new.store) c.release_claim.new.clock ms ≡ (releasing c.args.self.now.settings (entry_of c.args.claim.entry).id (state c.args.self.now.held (g.S.CompactionsStore.meaning c.args.store.now) c.args.clock.now ms)).state
+    left_at = c.release_claim.ensures.after ms ∙ ap (λ x. x.state) whole
 
 pub returns-in-Ok-release_claim : goal.returns-in-Ok-release_claim
 returns-in-Ok-release_claim g c =
@@ -89,12 +85,13 @@ returns-in-Ok-release_claim g c =
     let e = entry_of c.args.claim.entry in
     let h = c.args.self.now.held in
     let st = g.S.CompactionsStore.meaning c.args.store.now in
-    let said = λ (k : Readings) (ms : List (Result Manifest ℕ)). sym (ap settled_of c.in-Ok-release_claim.is) ∙ answered g b k ms in
+    let ck = c.args.clock.now in
+    let said = λ (ms : List (Result Manifest ℕ)). sym (ap settled_of c.in-Ok-release_claim.is) ∙ answered g b ms in
     record {
       step = record {
-        result = let_go_result s m e h st (refused g b).0 _ _ _ said (left_at g b) (not_stuck c.in-Ok-release_claim.field-0) (counts_of c.args.counts.now);
-        after = let_go_after s m e h st (refused g b).0 _ _ _ said (left_at g b) (not_stuck c.in-Ok-release_claim.field-0);
-        tracked = λ max P t. released_tracked s m e h st (refused g b).0 _ _ _ said (left_at g b) some_clock [] max P (settle t);
+        result = let_go_result s m e h st ck (refused g b).0 _ _ _ _ said (left_at g b) (not_stuck c.in-Ok-release_claim.field-0) (counts_of c.args.counts.now);
+        after = let_go_after s m e h st ck (refused g b).0 _ _ _ _ said (left_at g b) (not_stuck c.in-Ok-release_claim.field-0);
+        tracked = λ max P t. released_tracked s m e h st ck (refused g b).0 _ _ _ _ said (left_at g b) [] max P (settle t);
         frame = refl;
         few = omega arith;
       };
@@ -109,15 +106,16 @@ returns-in-Err-release_claim g c =
     let e = entry_of c.args.claim.entry in
     let h = c.args.self.now.held in
     let st = g.S.CompactionsStore.meaning c.args.store.now in
+    let ck = c.args.clock.now in
     let f = fault_of c.in-Err-release_claim.fault in
-    let said = λ (k : Readings) (ms : List (Result Manifest ℕ)). sym (ap settled_of c.in-Err-release_claim.is) ∙ answered g b k ms in
+    let said = λ (ms : List (Result Manifest ℕ)). sym (ap settled_of c.in-Err-release_claim.is) ∙ answered g b ms in
     record {
       step = record {
         back = (refused g b).1;
         counts = refl;
-        result = stuck_result s m e h st (refused g b).0 _ _ _ said (left_at g b) f refl;
-        after = stuck_after s m e h st (refused g b).0 _ _ _ said (left_at g b) f refl;
-        tracked = released_tracked s m e h st (refused g b).0 _ _ _ said (left_at g b) some_clock [];
+        result = stuck_result s m e h st ck (refused g b).0 _ _ _ _ said (left_at g b) f refl;
+        after = stuck_after s m e h st ck (refused g b).0 _ _ _ _ said (left_at g b) f refl;
+        tracked = released_tracked s m e h st ck (refused g b).0 _ _ _ _ said (left_at g b) [];
       };
       settings = c.release_claim.ensures.settings ∙ c.start.ensures.settings;
     }
