@@ -7,3 +7,4 @@ pub mod Absurd
 pub mod Pushes
 pub mod Edits
 pub mod Kept
+pub mod Walks

@@ -11,36 +11,25 @@ use crate::ulid::Ulid;
 pub(crate) fn place<R: Row>(rows: &[R], id: Ulid) -> usize
     ensures { result ≡ first_with (not_before (by R.named) (number id)) rows.now }
 {
-    for (i, row) in rows.iter().enumerate() {
-        if !row.id().is_before(id) {
-            return i;
-        }
-    }
-    rows.len()
+    rows.iter()
+        .position(|row| row.id() >= id)
+        .unwrap_or(rows.len())
 }
 
 // The place of the first row whose id is `id`.
 pub(crate) fn spot<R: Row>(rows: &[R], id: Ulid) -> usize
     ensures { result ≡ first_with (named_so (by R.named) (number id)) rows.now }
 {
-    for (i, row) in rows.iter().enumerate() {
-        if row.id().is(id) {
-            return i;
-        }
-    }
-    rows.len()
+    rows.iter()
+        .position(|row| row.id() == id)
+        .unwrap_or(rows.len())
 }
 
 // The row with an id, of rows that are only read.
 pub fn find<R: Row>(rows: &[R], id: Ulid) -> Option<R>
     ensures { result ≡ lookup (by R.named) (number id) rows.now }
 {
-    let at = spot(rows, id);
-    if at < rows.len() {
-        Some(rows[at])
-    } else {
-        None
-    }
+    rows.iter().find(|row| row.id() == id).copied()
 }
 
 // Whether the row at a place has the id.

@@ -34,14 +34,6 @@ impl<'a, R: Row> Table<'a, R> {
         self.len == self.rows.len()
     }
 
-    // The row at a place.
-    fn at(&self, i: usize) -> Option<R>
-        ensures { result ≡ slice_get (rows_of self.now) i }
-    {
-        let rows = &self.rows[0..self.len];
-        if i < rows.len() { Some(rows[i]) } else { None }
-    }
-
     // The rows, in ascending order of their ids where the table was made so.
     pub fn as_slice(&self) -> &[R]
         ensures { result.now ≡ rows_of self.now }
@@ -53,14 +45,14 @@ impl<'a, R: Row> Table<'a, R> {
     fn place(&self, id: Ulid) -> usize
         ensures { result ≡ first_with (not_before (by R.named) (number id)) (rows_of self.now) }
     {
-        scan::place(&self.rows[0..self.len], id)
+        scan::place(self.as_slice(), id)
     }
 
     // The place of the first row whose id is `id`.
     fn spot(&self, id: Ulid) -> usize
         ensures { result ≡ first_with (named_so (by R.named) (number id)) (rows_of self.now) }
     {
-        scan::spot(&self.rows[0..self.len], id)
+        scan::spot(self.as_slice(), id)
     }
 
     pub fn get(&self, id: Ulid) -> Option<R>
@@ -79,10 +71,7 @@ impl<'a, R: Row> Table<'a, R> {
     fn is_at(&self, at: usize, id: Ulid) -> bool
         ensures { result ≡ hits (by R.named) (number id) (slice_get (rows_of self.now) at) }
     {
-        match self.at(at) {
-            Some(row) => row.id().is(id),
-            None => false,
-        }
+        scan::is_at(self.as_slice(), at, id)
     }
 
     fn write_at(&mut self, at: usize, row: R)

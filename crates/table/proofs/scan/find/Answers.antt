@@ -1,21 +1,16 @@
-use Rattle.std.proofs.Common.{Some, sym, ap, ◌∙◌}
-use Rattle.std.specs.List.{slice_get}
-use Rattle.std.proofs.lemmas.Option.{slice_get-get_or, slice_get_past}
+use Rattle.std.proofs.Common.{sym, ◌∙◌, rules}
+use borrow.Author.Tests.{tests}
+use Rattle.std.proofs.lemmas.Iterator.{YieldsList-from_slice}
+use Rattle.std.proofs.lemmas.Iterator.Search.{find_from_yields_List}
 use Rattle.table.specs.Ids.{by, number}
-use Rattle.table.proofs.Scans.{lookup_at}
+use Rattle.table.specs.Tables.{named_so}
+use Rattle.table.proofs.Walks.{lookup_from_find}
 use Rattle.table.proofs.scan.find.Goals as goal
 
-pub returns-then-at-rows : goal.returns-then-at-rows
-returns-then-at-rows g c =
-    let xs = c.args.rows.now in
-    ap Some c.index-rows-at.is
-    ∙ sym (slice_get-get_or xs c.spot-at.result _ c.if-at-rows.true)
-    ∙ ap (slice_get xs) c.spot-at.ensures
-    ∙ sym (lookup_at (by g.R.Row.named) (number c.args.id) xs)
-
-pub returns-else-at-rows : goal.returns-else-at-rows
-returns-else-at-rows g c =
-    let xs = c.args.rows.now in
-    sym (slice_get_past xs c.spot-at.result c.if-at-rows.false)
-    ∙ ap (slice_get xs) c.spot-at.ensures
-    ∙ sym (lookup_at (by g.R.Row.named) (number c.args.id) xs)
+pub returns : goal.returns
+returns g c =
+    let key = by g.R.Row.named in
+    let k = number c.args.id in
+    c.copied.ensures
+    ∙ find_from_yields_List (named_so key k) _ _ c.find.result c.find.ensures.ran (YieldsList-from_slice _ c.iter.ensures.rest) (λ x b q h. search (rules, tests))
+    ∙ sym (lookup_from_find key k c.args.rows.now)
