@@ -1,5 +1,6 @@
 -- The loops that compare two contexts: what is left to compare from a place on.
 use Rattle.std.proofs.Common.{◌≡◌, ℕ, ◌+◌, ◌<◌, ◌≤◌, Bool, true, false, ◌&&◌, eqb, List, [], ◌∷◌, map, length, get_or, drop, sym, refl, ap, ◌∙◌, arith}
+use Rattle.std.specs.List.{list_all, zip}
 use Rattle.std.proofs.lemmas.List.{length-map, length-drop, drop_more, drop_all}
 use Rattle.compactions.specs.Entries.{Sub}
 use Rattle.worker_steps.specs.Extending.{starts_with, sub_extends, subs_extend}
@@ -38,21 +39,9 @@ subs_uneven f (x ∷ xs) (y ∷ ys) n = let ih = subs_uneven f xs ys (λ e. n (o
     by true e = e
     by false e = refl
 
--- an item at its place begins the rest
-from_place : {A : Type 0} (xs : List A) (i : ℕ) (x : A) → i < length xs → x ≡ get_or xs i x → drop i xs ≡ x ∷ drop (i + 1) xs
-from_place xs i x l e = drop_more xs i x l ∙ ap (λ y. y ∷ drop (i + 1) xs) (sym e)
-
--- subcompactions, from place i on
-module _ {A : Type 0} (f : A → Sub) (old new : List A) (i : ℕ) (whole : Bool) (even : length old ≡ length new) (rest : subs_extend (map f (drop i old)) (map f (drop i new)) ≡ whole) where
-  pub subs_all : length old ≤ i → true ≡ whole
-  subs_all l = rw (drop_all i old l, drop_all i new (omega arith)) at rest
-
-  module _ (x y : A) (l : i < length old) (p : x ≡ get_or old i x) (q : y ≡ get_or new i y) where
-    each : (sub_extends (f x) (f y) && subs_extend (map f (drop (i + 1) old)) (map f (drop (i + 1) new))) ≡ whole
-    each = rw (from_place old i x l p, from_place new i y (omega arith) q) at rest
-
-    pub subs_apart : false ≡ sub_extends (f x) (f y) → false ≡ whole
-    subs_apart e = rw (sym e) at each
-
-    pub subs_more : true ≡ sub_extends (f x) (f y) → subs_extend (map f (drop (i + 1) old)) (map f (drop (i + 1) new)) ≡ whole
-    subs_more e = rw (sym e) at each
+-- lists of one length, compared pair by pair
+pub subs_paired : {A : Type 0} (f : A → Sub) (old new : List A) → length old ≡ length new → list_all (λ (p : A × A). sub_extends (f p.0) (f p.1)) (zip old new) ≡ subs_extend (map f old) (map f new)
+subs_paired f [] [] e = refl
+subs_paired f [] (y ∷ ys) e = absurd (omega arith)
+subs_paired f (x ∷ xs) [] e = absurd (omega arith)
+subs_paired f (x ∷ xs) (y ∷ ys) e = ap (λ b. sub_extends (f x) (f y) && b) (subs_paired f xs ys (omega arith))

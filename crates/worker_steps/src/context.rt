@@ -5,7 +5,7 @@
 // 0.16.0 (Apache-2.0, see NOTICE); changed: an answer where the Rust asserts.
 ghost use Rattle.std.specs.Prelude.{◌≡◌, map};
 ghost use Rattle.compactions.specs.Meanings.{sst_of, sub_of, context_of};
-ghost use Rattle.worker_steps.specs.Extending.{starts_with, sub_extends, subs_extend, same_retention, context_extends};
+ghost use Rattle.worker_steps.specs.Extending.{starts_with, sub_extends, subs_extend, context_extends};
 ghost use Rattle.worker_steps.specs.ExtendingLaws.{ExtendingLaws};
 
 use compactions::compactor_state::{CompactionContext, Subcompaction};
@@ -38,34 +38,19 @@ fn subcompaction_extends(old: &Subcompaction, new: &Subcompaction) -> bool
 fn subcompactions_extend(old: &[Subcompaction], new: &[Subcompaction]) -> bool
     ensures { result ≡ subs_extend (map sub_of old.now) (map sub_of new.now) }
 {
-    if old.len() != new.len() {
-        return false;
-    }
-    for (i, sub) in old.iter().enumerate() {
-        let other = new[i];
-        if !subcompaction_extends(sub, &other) {
-            return false;
-        }
-    }
-    true
+    old.len() == new.len()
+        && old
+            .iter()
+            .zip(new)
+            .all(|(old, new)| subcompaction_extends(old, new))
 }
 
-// An absent retention is not 0.
-fn is_same_retention(old: Option<u64>, new: Option<u64>) -> bool
-    ensures { result ≡ same_retention old new }
-{
-    match (old, new) {
-        (Some(old), Some(new)) => old == new,
-        (None, None) => true,
-        _ => false,
-    }
-}
-
-// Whether the new context says all that the old one says, and no more than further outputs.
+// Whether the new context says all that the old one says, and no more than further outputs; an
+// absent retention is not 0.
 pub fn extends(old: &CompactionContext, new: &CompactionContext) -> bool
     ensures value { result ≡ context_extends (context_of old.now) (context_of new.now) }
     ensures laws { ExtendingLaws }
 {
-    is_same_retention(old.retention_min_seq, new.retention_min_seq)
+    old.retention_min_seq == new.retention_min_seq
         && subcompactions_extend(old.subcompactions.as_slice(), new.subcompactions.as_slice())
 }

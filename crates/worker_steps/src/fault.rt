@@ -8,7 +8,7 @@ ghost use Rattle.worker_steps.specs.declared.fault.WorkerFault.TheVariants.{Stor
 use stores::compactions_store::StoreFault;
 use table::ulid::Ulid;
 
-#[derive(Clone, Copy)]
+#[derive(Clone, Copy, PartialEq, Eq, Debug)]
 pub enum Work {
     Look,
     Claim,
@@ -18,7 +18,7 @@ pub enum Work {
 }
 
 // A work, the id that it is about, if any, and its attempt; a look has attempt 0.
-#[derive(Clone, Copy)]
+#[derive(Clone, Copy, PartialEq, Eq, Debug)]
 pub struct During {
     pub work: Work,
     pub id: Option<Ulid>,
@@ -26,13 +26,13 @@ pub struct During {
 }
 
 // A store's fault, with the work that met it.
-#[derive(Clone, Copy)]
+#[derive(Clone, Copy, PartialEq, Eq, Debug)]
 pub struct Told {
     pub fault: StoreFault,
     pub during: During,
 }
 
-#[derive(Clone, Copy)]
+#[derive(Clone, Copy, PartialEq, Eq, Debug)]
 pub enum WorkerFault {
     // the store failed
     Store(Told),
@@ -50,7 +50,7 @@ impl WorkerFault {
     {
         match self {
             WorkerFault::Store(_) => 6,
-            WorkerFault::Manifest(_, _) => 7,
+            WorkerFault::Manifest(..) => 7,
             WorkerFault::NotLanded(_) => 8,
             WorkerFault::NotExtending(_) => 9,
         }
@@ -70,12 +70,9 @@ impl During {
     pub fn tell<T>(self, answer: Result<T, StoreFault>) -> Result<T, Told>
         ensures { result ≡ told_as self answer }
     {
-        match answer {
-            Ok(value) => Ok(value),
-            Err(fault) => Err(Told {
-                fault,
-                during: self,
-            }),
-        }
+        answer.map_err(|fault| Told {
+            fault,
+            during: self,
+        })
     }
 }

@@ -1,15 +1,18 @@
+use Rattle.std.proofs.Common.{◌≡◌, false, eqb, length, ◌∙◌, arith, rules}
+use Rattle.std.proofs.lemmas.Bool.Decides.{nat_tests}
+use Rattle.std.proofs.lemmas.Iterator.{YieldsList-from_slice, YieldsList-from_zip}
+use Rattle.std.proofs.lemmas.Iterator.Search.{all_from_yields_List}
 use Rattle.compactions.specs.Meanings.{sub_of}
-use Rattle.worker_steps.proofs.Extending.{subs_uneven, subs_all, subs_apart, subs_more}
+use Rattle.worker_steps.specs.Extending.{sub_extends}
+use Rattle.worker_steps.proofs.Extending.{subs_uneven, subs_paired}
 use Rattle.worker_steps.proofs.context.subcompactions_extend.Goals as goal
 
 pub returns-then-old-new : goal.returns-then-old-new
-returns-then-old-new c = subs_uneven sub_of _ _ c.if-old-new.true
+returns-then-old-new c =
+    all_from_yields_List (λ p. sub_extends (sub_of p.0) (sub_of p.1)) c.all.new.self _ c.all.result c.all.ensures.ran (YieldsList-from_zip (YieldsList-from_slice c.args.old.now cc) (YieldsList-from_slice c.args.new.now cc)) (λ x b q k. search rules)
+    ∙ subs_paired sub_of _ _ c.if-old-new.true
 
-pub returns-then-not-subcompaction_extends : goal.returns-then-not-subcompaction_extends
-returns-then-not-subcompaction_extends c = subs_apart sub_of _ _ _ _ c.if-old-new.false c.loop-i.invariant c.index-old-i.result c.index-new-i.result c.loop-i-test.true c.index-old-i.is c.index-new-i.is c.if-not-subcompaction_extends.ensures
-
-pub loop-i-preserved : goal.loop-i-preserved
-loop-i-preserved c = subs_more sub_of _ _ _ _ c.if-old-new.false c.loop-i.invariant c.index-old-i.result c.index-new-i.result c.loop-i-test.true c.index-old-i.is c.index-new-i.is c.if-not-subcompaction_extends.ensures
-
-pub returns : goal.returns
-returns c = subs_all sub_of _ _ _ _ c.if-old-new.false c.loop-i.invariant c.loop-i-test.false
+pub returns-else-old-new : goal.returns-else-old-new
+returns-else-old-new c =
+    let e : eqb (length c.args.old.now) (length c.args.new.now) ≡ false = let n = c.if-old-new.false in grind (arith, nat_tests) in
+    e ∙ subs_uneven sub_of _ _ c.if-old-new.false
