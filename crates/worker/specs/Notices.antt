@@ -1,20 +1,28 @@
 -- What the answers to notices mean.
-use Rattle.std.specs.Prelude.{◌≡◌, ℕ, true, List, Option, Result}
+use Rattle.std.specs.Prelude.{◌≡◌, ℕ, true, List, Ok, Err, Option, Result}
 use Rattle.compactions.specs.Trees.{Manifest}
 use Rattle.executors.specs.Executors.{Notice, names_running}
 use Rattle.worker_steps.specs.Faults.{fault_of}
 use Rattle.worker_steps.specs.States.{Settings, State}
 use Rattle.worker_steps.specs.Notices as steps
 use Rattle.worker.specs.declared.notices.NoticeAnswer.{NoticeAnswer}
-use Rattle.worker.specs.declared.notices.NoticeAnswer.TheVariants.{NothingYet, NoNotice, Progress, Written, Dropped, Faulted}
+use Rattle.worker.specs.declared.notices.NoticeAnswer.TheVariants.{NothingYet, NoNotice, Progress, Written, Dropped}
+use Rattle.worker.specs.declared.settling.Settled.{Settled}
+use Rattle.worker.specs.declared.settling.Settled.TheVariants as settled
+use Rattle.worker_steps.specs.declared.fault.WorkerFault.{WorkerFault}
 
-abbrev pub noticed_of : NoticeAnswer → steps.Noticed
-noticed_of NothingYet = steps.not_yet
-noticed_of NoNotice = steps.no_notice
-noticed_of Progress = steps.progressed
-noticed_of Written = steps.entry_written
-noticed_of Dropped = steps.entry_dropped
-noticed_of (Faulted f) = steps.faulted (fault_of f)
+-- the answer where an entry was written or dropped
+abbrev pub answer_to : Settled → NoticeAnswer
+answer_to settled.Written = Written
+answer_to settled.Dropped = Dropped
+
+abbrev pub noticed_of : Result NoticeAnswer WorkerFault → steps.Noticed
+noticed_of (Ok NothingYet) = steps.not_yet
+noticed_of (Ok NoNotice) = steps.no_notice
+noticed_of (Ok Progress) = steps.progressed
+noticed_of (Ok Written) = steps.entry_written
+noticed_of (Ok Dropped) = steps.entry_dropped
+noticed_of (Err f) = steps.faulted (fault_of f)
 
 -- for some notice of a running job, or none, the call answers and leaves what its steps do
 pub record Noticing (s : Settings) (before : List (Result Manifest ℕ) → State) (answer : steps.Noticed) (after : List (Result Manifest ℕ) → State) : Type 0 where

@@ -1,5 +1,5 @@
 -- What the answers of a poll and of its parts mean.
-use Rattle.std.specs.Prelude.{ℕ, ◌+◌, Bool, true, false, List, [], map, length, Some, None, Ok, Err, Option, Result}
+use Rattle.std.specs.Prelude.{ℕ, ◌+◌, List, [], map, length, Some, None, Ok, Err, Option, Result}
 use Rattle.compactions.specs.Entries.{Entry}
 use Rattle.stores.specs.Records.{entry_id}
 use Rattle.worker_steps.specs.Faults.{Fault, fault_of}
@@ -12,7 +12,7 @@ use Rattle.worker_steps.specs.declared.fault.WorkerFault.{WorkerFault}
 use Rattle.worker.specs.Claims.{waiting}
 use Rattle.worker.specs.declared.polls.PollCounts.{PollCounts}
 use Rattle.worker.specs.declared.polls.PollEnd.{PollEnd}
-use Rattle.worker.specs.declared.polls.PollEnd.TheVariants.{NothingYet, Done, Faulted}
+use Rattle.worker.specs.declared.polls.PollEnd.TheVariants.{NothingYet, Done}
 use Rattle.worker.specs.declared.polls.PollAnswer.{PollAnswer}
 use Rattle.worker.specs.declared.polls.LandedClaims.{LandedClaims}
 use Rattle.worker.specs.declared.polls.ClaimTurn.{ClaimTurn}
@@ -101,10 +101,10 @@ PendingClaim max h (Ok (Some l)) = Tracked max (map entry_id (waiting l.claims))
 PendingClaim max h (Err f) = Unit {0}
 
 -- how a poll ended
-abbrev pub ended_of : PollEnd → polls.Ended
-ended_of NothingYet = polls.not_yet
-ended_of Done = polls.done
-ended_of (Faulted f) = polls.faulted (fault_of f)
+abbrev pub ended_of : Result PollEnd WorkerFault → polls.Ended
+ended_of (Ok NothingYet) = polls.not_yet
+ended_of (Ok Done) = polls.done
+ended_of (Err f) = polls.faulted (fault_of f)
 
 -- the answer of a poll, by how it ended and its counts
 abbrev pub poll_answer_by : polls.Ended → Counts → polls.PollAnswer
@@ -112,9 +112,3 @@ poll_answer_by e c = polls.poll_answer e c.claimed c.started c.let_go c.left c.s
 
 abbrev pub poll_answer_of : PollAnswer → polls.PollAnswer
 poll_answer_of a = poll_answer_by (ended_of a.end) (counts_of a.counts)
-
--- how the works of a poll ended: whether there is a record, or a fault
-abbrev pub works_ended : Result Bool WorkerFault → polls.Ended
-works_ended (Ok true) = polls.done
-works_ended (Ok false) = polls.not_yet
-works_ended (Err f) = polls.faulted (fault_of f)

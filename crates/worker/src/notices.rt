@@ -1,14 +1,27 @@
 // What the worker answers to a notice of its executor.
-use worker_steps::fault::WorkerFault;
+ghost use Rattle.std.specs.Prelude.{◌≡◌};
+ghost use Rattle.worker.specs.Notices.{answer_to};
 
-// There is no record yet, no notice was there, progress was kept, the entry of a job that ended was
-// written or dropped, or a work met a fault.
-#[derive(Clone, Copy)]
+use crate::settling::Settled;
+
+// There is no record yet, no notice was there, progress was kept, or the entry of a job that ended
+// was written or dropped.
+#[derive(Clone, Copy, PartialEq, Eq, Debug)]
 pub enum NoticeAnswer {
     NothingYet,
     NoNotice,
     Progress,
     Written,
     Dropped,
-    Faulted(WorkerFault),
+}
+
+impl From<Settled> for NoticeAnswer {
+    ghost from_gives = { λ settled answer. answer ≡ answer_to settled };
+
+    fn from(settled: Settled) -> NoticeAnswer {
+        match settled {
+            Settled::Written => NoticeAnswer::Written,
+            Settled::Dropped => NoticeAnswer::Dropped,
+        }
+    }
 }

@@ -14,31 +14,24 @@ use table::ulid::Ulid;
 pub(crate) fn is_under(entry: &Compaction, number: u32) -> bool
     ensures { result ≡ under number (entry_of entry.now) }
 {
-    match entry.worker {
-        Some(worker) => number == worker.worker_id,
-        None => false,
-    }
+    entry
+        .worker
+        .is_some_and(|worker| number == worker.worker_id)
 }
 
 // Whether the id has an entry Running under the number.
 pub(crate) fn runs_under(draft: &Draft, id: Ulid, number: u32) -> bool
     ensures { result ≡ runs_at number (draft_of draft.now).entries (id-number id) }
 {
-    let Some(entry) = draft.get(id) else {
-        return false;
-    };
-    match entry.status {
-        CompactionStatus::Running => is_under(&entry, number),
-        _ => false,
-    }
+    draft.get(id).is_some_and(|entry| matches!(entry.status, CompactionStatus::Running)
+        && is_under(&entry, number))
 }
 
 // Whether the entry is Scheduled, tiered and without worker.
 pub(crate) fn is_unclaimed(entry: &Compaction) -> bool
     ensures { result ≡ unclaimed (entry_of entry.now) }
 {
-    match (entry.status, entry.worker) {
-        (CompactionStatus::Scheduled, None) => entry.spec.destination().is_some(),
-        _ => false,
-    }
+    matches!(entry.status, CompactionStatus::Scheduled)
+        && entry.spec.destination().is_some()
+        && entry.worker.is_none()
 }

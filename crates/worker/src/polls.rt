@@ -1,12 +1,9 @@
 // What a poll answers, and what its parts hand to one another.
-ghost use Rattle.std.specs.Prelude.{◌≡◌};
-ghost use Rattle.worker.specs.Polls.{counts_of};
-
 use crate::claims::Claims;
 use worker_steps::fault::WorkerFault;
 
 // How many entries a poll claimed, started, let go and left behind, and how many jobs it stopped.
-#[derive(Clone, Copy)]
+#[derive(Clone, Copy, PartialEq, Eq, Debug, Default)]
 pub struct PollCounts {
     pub claimed: u32,
     pub started: u32,
@@ -15,18 +12,17 @@ pub struct PollCounts {
     pub stopped: u32,
 }
 
-// How a poll ended: there is no record yet, it is done, or it met a fault.
-#[derive(Clone, Copy)]
+// How a poll ends that meets no fault: there is no record yet, or it is done.
+#[derive(Clone, Copy, PartialEq, Eq, Debug)]
 pub enum PollEnd {
     NothingYet,
     Done,
-    Faulted(WorkerFault),
 }
 
 // What a poll answers; its counts hold after a fault too.
 #[derive(Clone, Copy)]
 pub struct PollAnswer {
-    pub end: PollEnd,
+    pub end: Result<PollEnd, WorkerFault>,
     pub counts: PollCounts,
 }
 
@@ -41,18 +37,4 @@ pub enum ClaimTurn {
 pub struct LandedClaims {
     pub claims: Claims,
     pub attempt: u32,
-}
-
-impl PollCounts {
-    pub(crate) fn new() -> PollCounts
-        ensures { counts_of result ≡ record { claimed = 0; started = 0; let_go = 0; left = 0; stopped = 0 } }
-    {
-        PollCounts {
-            claimed: 0,
-            started: 0,
-            let_go: 0,
-            left: 0,
-            stopped: 0,
-        }
-    }
 }

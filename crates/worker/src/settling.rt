@@ -20,7 +20,7 @@ use table::ulid::Ulid;
 use worker_steps::fault::{During, WorkerFault};
 
 // What a work on one entry came to: written, or dropped since the entry is missing or not under the number.
-#[derive(Clone, Copy)]
+#[derive(Clone, Copy, PartialEq, Eq, Debug)]
 pub enum Settled {
     Written,
     Dropped,
@@ -30,12 +30,7 @@ pub enum Settled {
 pub(crate) fn own_entry(draft: &Draft, id: Ulid, number: u32) -> Option<Compaction>
     ensures { option_map entry_of result ≡ if_own number (lookup entry_id (id-number id) (draft_of draft.now).entries) }
 {
-    let entry = draft.get(id)?;
-    if is_under(&entry, number) {
-        Some(entry)
-    } else {
-        None
-    }
+    draft.get(id).filter(|entry| is_under(entry, number))
 }
 
 // Hands the draft in with one entry in the place of the one with its id; gives nothing after a conflict.

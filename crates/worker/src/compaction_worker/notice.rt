@@ -67,13 +67,11 @@ impl<E: CompactionExecutor> CompactionWorker<E> {
         if !self.owned.strike_row(id) {
             return Ok(Settled::Dropped);
         }
-        match self.settle_finished(store, clock, id, res) {
-            Ok(settled) => Ok(settled),
-            Err(fault) => {
-                self.leave(id);
-                Err(fault)
-            }
+        let settled = self.settle_finished(store, clock, id, res);
+        if settled.is_err() {
+            self.leave(id);
         }
+        settled
     }
 
     fn handle<S: CompactionsStore>(
@@ -81,7 +79,7 @@ impl<E: CompactionExecutor> CompactionWorker<E> {
         store: &mut S,
         clock: &mut ListClock,
         message: WorkerMessage,
-    ) -> NoticeAnswer
+    ) -> Result<NoticeAnswer, WorkerFault>
         ensures answer { (ms : List (Result Manifest ℕ)) → noticed_of result ≡ (handled self.old.settings (notice_of message) (state self.old.held (S.meaning store.old) clock.old ms)).result }
         ensures after { (ms : List (Result Manifest ℕ)) → state self.new.held (S.meaning store.new) clock.new ms ≡ (handled self.old.settings (notice_of message) (state self.old.held (S.meaning store.old) clock.old ms)).state }
         ensures settings { self.new.settings ≡ self.old.settings }
@@ -89,19 +87,14 @@ impl<E: CompactionExecutor> CompactionWorker<E> {
         match message {
             WorkerMessage::CompactionJobProgress { id, ctx } => {
                 if self.record_progress(id, ctx) {
-                    NoticeAnswer::Progress
+                    Ok(NoticeAnswer::Progress)
                 } else {
-                    NoticeAnswer::Dropped
+                    Ok(NoticeAnswer::Dropped)
                 }
             }
             WorkerMessage::CompactionJobFinished { id, result } => {
-                match self.handle_finished(store, clock, id, result) {
-                    Ok(settled) => match settled {
-                        Settled::Written => NoticeAnswer::Written,
-                        Settled::Dropped => NoticeAnswer::Dropped,
-                    },
-                    Err(fault) => NoticeAnswer::Faulted(fault),
-                }
+                let settled = self.handle_finished(store, clock, id, result)?;
+                Ok(NoticeAnswer::from(settled))
             }
         }
     }
@@ -111,20 +104,15 @@ impl<E: CompactionExecutor> CompactionWorker<E> {
         &mut self,
         store: &mut S,
         clock: &mut ListClock,
-    ) -> NoticeAnswer
+    ) -> Result<NoticeAnswer, WorkerFault>
         ensures steps { Noticing self.old.settings (state self.old.held (S.meaning store.old) clock.old) (noticed_of result) (state self.new.held (S.meaning store.new) clock.new) }
         ensures settings { self.new.settings ≡ self.old.settings }
     {
-        match self.ensure_loaded(store) {
-            Ok(loaded) => {
-                if !loaded {
-                    return NoticeAnswer::NothingYet;
-                }
-            }
-            Err(fault) => return NoticeAnswer::Faulted(fault),
+        if !self.ensure_loaded(store)? {
+            return Ok(NoticeAnswer::NothingYet);
         }
         let Some(message) = self.executor.take() else {
-            return NoticeAnswer::NoNotice;
+            return Ok(NoticeAnswer::NoNotice);
         };
         self.handle(store, clock, message)
     }

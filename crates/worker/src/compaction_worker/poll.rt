@@ -7,7 +7,7 @@ ghost use Rattle.worker_steps.specs.Tracking.{Tracked};
 ghost use Rattle.worker_steps.specs.Polls.{dispatch_given, poll as poll-steps};
 ghost use Rattle.worker.specs.Claims.{waiting};
 ghost use Rattle.worker.specs.Dispatches.{dispatch_of};
-ghost use Rattle.worker.specs.Polls.{counts_of, poll_answer_by, poll_answer_of, works_ended};
+ghost use Rattle.worker.specs.Polls.{counts_of, poll_answer_by, poll_answer_of, ended_of};
 
 use super::CompactionWorker;
 use crate::polls::{LandedClaims, PollAnswer, PollCounts, PollEnd};
@@ -50,27 +50,27 @@ impl<E: CompactionExecutor> CompactionWorker<E> {
         }
     }
 
-    // The works of a poll: whether there is a record, or the fault that one of them met.
+    // The works of a poll, or the fault that one of them met.
     fn poll_works<S: CompactionsStore>(
         &mut self,
         store: &mut S,
         clock: &mut ListClock,
         manifests: &mut ListManifests,
         counts: &mut PollCounts,
-    ) -> Result<bool, WorkerFault>
+    ) -> Result<PollEnd, WorkerFault>
         requires { counts_of counts.old ≡ record { claimed = 0; started = 0; let_go = 0; left = 0; stopped = 0 } }
-        ensures answer { poll_answer_by (works_ended result) (counts_of counts.new) ≡ (poll-steps self.old.settings (state self.old.held (S.meaning store.old) clock.old manifests.old)).result }
+        ensures answer { poll_answer_by (ended_of result) (counts_of counts.new) ≡ (poll-steps self.old.settings (state self.old.held (S.meaning store.old) clock.old manifests.old)).result }
         ensures after { state self.new.held (S.meaning store.new) clock.new manifests.new ≡ (poll-steps self.old.settings (state self.old.held (S.meaning store.old) clock.old manifests.old)).state }
         ensures settings { self.new.settings ≡ self.old.settings }
     {
         if !self.ensure_loaded(store)? {
-            return Ok(false);
+            return Ok(PollEnd::NothingYet);
         }
         let Some(landed) = self.claim(store, clock, counts)? else {
-            return Ok(true);
+            return Ok(PollEnd::Done);
         };
         self.after_claim(store, clock, manifests, landed, counts)?;
-        Ok(true)
+        Ok(PollEnd::Done)
     }
 
     // Claims as many entries as there is capacity for, and starts or releases each.
@@ -84,12 +84,8 @@ impl<E: CompactionExecutor> CompactionWorker<E> {
         ensures after { state self.new.held (S.meaning store.new) clock.new manifests.new ≡ (poll-steps self.old.settings (state self.old.held (S.meaning store.old) clock.old manifests.old)).state }
         ensures settings { self.new.settings ≡ self.old.settings }
     {
-        let mut counts = PollCounts::new();
-        let end = match self.poll_works(store, clock, manifests, &mut counts) {
-            Ok(true) => PollEnd::Done,
-            Ok(false) => PollEnd::NothingYet,
-            Err(fault) => PollEnd::Faulted(fault),
-        };
+        let mut counts = PollCounts::default();
+        let end = self.poll_works(store, clock, manifests, &mut counts);
         PollAnswer { end, counts }
     }
 }

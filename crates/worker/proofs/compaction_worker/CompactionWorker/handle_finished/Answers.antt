@@ -36,7 +36,7 @@ leave-requires g c =
     let m = g.E.CompactionExecutor in
     let o = c.strike_row.new.self in
     let h₁ : Held = record { loaded = w.loaded; table = o.table; left = o.left; jobs = (m.jobs w.executor).list } in
-    let h₂ : Held = c.settle_finished.new.self.held in
-    let less : Less h₁ h₂ = subst (λ (y : State). Less h₁ y.held) (sym (c.settle_finished.ensures.after [])) (settling_less (record { number = w.number; maximum = o.maximum; limit = w.limit; places = m.places.count }) (number c.args.id) (outcome_of c.args.res) (state h₁ _ _ [])) in
-    let max : c.settle_finished.new.self.settings.maximum ≡ o.maximum = ap (λ x. x.maximum) c.settle_finished.ensures.settings in
+    let h₂ : Held = c.settle_finished-settled.new.self.held in
+    let less : Less h₁ h₂ = subst (λ (y : State). Less h₁ y.held) (sym (c.settle_finished-settled.ensures.after [])) (settling_less (record { number = w.number; maximum = o.maximum; limit = w.limit; places = m.places.count }) (number c.args.id) (outcome_of c.args.res) (state h₁ _ _ [])) in
+    let max : c.settle_finished-settled.new.self.settings.maximum ≡ o.maximum = ap (λ x. x.maximum) c.settle_finished-settled.ensures.settings in
     rw max (less_tracked h₁ h₂ less (c.if-not-strike_row.ensures.pending refl))
