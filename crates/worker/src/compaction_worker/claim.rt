@@ -135,22 +135,18 @@ impl<E: CompactionExecutor> CompactionWorker<E> {
         ensures pending { PendingClaim self.new.settings.maximum self.new.held result }
     {
         let capacity = self.owned.capacity();
-        let mut attempt = 1;
-        let claims = 'attempts: loop {
+        let limit = self.limit;
+        for attempt in 1..=limit {
             match self.attempt_claim(store, clock, capacity, attempt, counts)? {
                 ClaimTurn::NoneChosen => return Ok(None),
-                ClaimTurn::Landed(claims) => break 'attempts claims,
+                ClaimTurn::Landed(claims) => return Ok(Some(LandedClaims { claims, attempt })),
                 ClaimTurn::Conflict => {}
             }
-            if attempt >= self.limit {
-                return Err(WorkerFault::NotLanded(During {
-                    work: Work::Claim,
-                    id: None,
-                    attempt,
-                }));
-            }
-            attempt += 1;
-        };
-        Ok(Some(LandedClaims { claims, attempt }))
+        }
+        Err(WorkerFault::NotLanded(During {
+            work: Work::Claim,
+            id: None,
+            attempt: limit,
+        }))
     }
 }
