@@ -1,5 +1,6 @@
 -- What a record of the code means.
-use Rattle.std.specs.Prelude.{List, map, take, Some, None, Ok, Err, Option, Result}
+use Rattle.std.specs.Prelude.{List, map, Some, None, Ok, Err, Option, Result}
+use Rattle.table.specs.Fixed.{rows_in}
 use Rattle.table.specs.Ids.{number}
 use Rattle.compactions.specs.Meanings.{entry_of}
 use Rattle.compactions.specs.declared.compactor_state.Compaction.{Compaction}
@@ -19,7 +20,7 @@ use Rattle.stores.specs.Stores.{Edit, create, puts, removes, Outcome, clear, dow
 
 -- the entries that count
 abbrev pub entries_of : Compactions → List Compaction
-entries_of c = take c.len c.entries
+entries_of c = rows_in c.entries
 
 abbrev pub record_of : Compactions → Record
 record_of c = record { version = c.version; entries = map entry_of (entries_of c) }

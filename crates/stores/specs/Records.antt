@@ -1,5 +1,5 @@
 -- A record by its meaning: a version and entries, ascending by their ids.
-use Rattle.std.specs.Prelude.{ℕ, ◌+◌, ◌-◌, ◌^◌, cond, List, nat_lt}
+use Rattle.std.specs.Prelude.{ℕ, ◌+◌, ◌-◌, ◌^◌, cond, List, Some, None, Option, nat_lt}
 use Rattle.table.specs.Tables.{holds, put, admits, strike}
 use Rattle.compactions.specs.Entries.{Entry}
 
@@ -27,6 +27,11 @@ most_entries = 32
 -- one version on, with these entries
 abbrev pub raised : Record → List Entry → Record
 raised r es = record { version = r.version + 1; entries = es }
+
+-- a changed record one version on, or the old one where there is no change or no version is left
+abbrev pub after_change : Option Record → Record → Record
+after_change None r = r
+after_change (Some d) r = cond (nat_lt d.version last_version) (raised d d.entries) r
 
 -- an entry put by someone else: passed over at the highest version, or if it is new and there is no place
 abbrev pub put_entry : Entry → Record → Record
