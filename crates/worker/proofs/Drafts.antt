@@ -20,13 +20,14 @@ use Rattle.worker_steps.proofs.Walks.{still_held}
 use Rattle.worker.proofs.Pushes.{taken}
 
 pub draft_ascends : (d : Draft) → Ascending entry_id (draft_of d).entries
-draft_ascends d = ascending_from entry_id (draft_of d).entries (sym (ascends-map entry_of entry_id (entries_of d.record)) ∙ d.record.ascending)
+draft_ascends d = ascending_from entry_id (draft_of d).entries (sym (ascends-map entry_of entry_id (entries_of d.record)) ∙ d.record.entries.ascending)
 
 pub draft_few : (d : Draft) → length (draft_of d).entries ≤ 32
 draft_few d =
+    let rows = d.record.entries.rows in
     let n = length-map (entries_of d.record) entry_of in
-    let l : d.record.len ≤ length d.record.entries = omega (arith, d.record.within, d.record.whole) in
-    omega (arith, n, length-take-le d.record.len d.record.entries l, d.record.within)
+    let l : rows.len ≤ length rows.items = omega (arith, rows.within, rows.whole) in
+    omega (arith, n, length-take-le rows.len rows.items l, rows.within)
 
 pub inserted : (d d' : Draft) (c : Compaction) (r : Result (Unit {0}) Refusal) → holds entry_id (entry_of c).id (draft_of d).entries ≡ true → refused_with r ≡ unless (admits entry_id 32 (entry_of c) (draft_of d).entries) 1 → draft_of d' ≡ cond (is_ok r) (with_entries (draft_of d) (put entry_id (entry_of c) (draft_of d).entries)) (draft_of d) → draft_of d' ≡ with_entries (draft_of d) (put entry_id (entry_of c) (draft_of d).entries)
 inserted d d' c r h said e =
