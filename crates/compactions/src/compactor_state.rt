@@ -15,7 +15,7 @@ use crate::rows::Rows;
 use table::row::Row;
 use table::ulid::Ulid;
 
-#[derive(Clone, Copy)]
+#[derive(Clone, Copy, PartialEq, Eq, Debug)]
 pub enum SourceId {
     SortedRun(u32),
     SstView(Ulid),
@@ -40,7 +40,7 @@ pub enum CompactionSpec {
     DrainSegment(DrainSegmentSpec),
 }
 
-#[derive(Clone, Copy)]
+#[derive(Clone, Copy, PartialEq, Eq, Debug)]
 pub enum CompactionStatus {
     Submitted,
     Scheduled,
@@ -51,7 +51,7 @@ pub enum CompactionStatus {
 }
 
 // The worker that holds a claim, by its number, and the stamp of its last heartbeat.
-#[derive(Clone, Copy)]
+#[derive(Clone, Copy, PartialEq, Eq, Debug)]
 pub struct WorkerSpec {
     pub worker_id: u32,
     pub last_heartbeat_ms: u64,
@@ -135,17 +135,10 @@ impl CompactionSpec {
         ensures value { refused_with result ≡ unless (nat_lt (length (spec_sources (spec_of self.old))) 8) 1 }
         ensures after { spec_of self.new ≡ (if is_ok result then more_sources (source_of source) (spec_of self.old) else spec_of self.old) }
     {
-        match *self {
-            CompactionSpec::Tiered(mut spec) => {
-                spec.sources.push(source, Refusal::Count)?;
-                *self = CompactionSpec::Tiered(spec);
-            }
-            CompactionSpec::DrainSegment(mut spec) => {
-                spec.sources.push(source, Refusal::Count)?;
-                *self = CompactionSpec::DrainSegment(spec);
-            }
+        match self {
+            CompactionSpec::Tiered(spec) => spec.sources.push(source, Refusal::Count),
+            CompactionSpec::DrainSegment(spec) => spec.sources.push(source, Refusal::Count),
         }
-        Ok(())
     }
 
     pub fn segment(&self) -> &[u8]

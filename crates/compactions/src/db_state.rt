@@ -11,10 +11,10 @@ use crate::refusal::Refusal;
 use crate::rows::Rows;
 use table::ulid::Ulid;
 
-#[derive(Clone, Copy)]
+#[derive(Clone, Copy, PartialEq, Eq, Debug)]
 pub struct SsTableId(pub Ulid);
 
-#[derive(Clone, Copy)]
+#[derive(Clone, Copy, PartialEq, Eq, Debug)]
 pub struct SsTableView {
     pub id: Ulid,
     pub sst: SsTableId,

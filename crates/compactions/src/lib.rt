@@ -7,5 +7,6 @@ pub mod job_args;
 pub mod manifest;
 mod prefix;
 pub mod refusal;
+mod show;
 
 pub use table::rows;

@@ -6,14 +6,5 @@ ghost use Rattle.compactions.specs.Prefixes.{before};
 pub(crate) fn is_below(a: &[u8], b: &[u8]) -> bool
     ensures { result ≡ before a.now b.now }
 {
-    for (i, x) in a.iter().enumerate() {
-        if i >= b.len() {
-            return false;
-        }
-        let y = b[i];
-        if *x != y {
-            return *x < y;
-        }
-    }
-    a.len() < b.len()
+    a < b
 }

@@ -77,10 +77,10 @@ impl Manifest {
     fn last_prefix(&self) -> &[u8]
         ensures { result.now ≡ latest [] (map (λ s. s.prefix) (manifest_of self.now).segments) }
     {
-        match self.segments.as_slice().last() {
-            Some(segment) => segment.prefix.as_slice(),
-            None => &[],
-        }
+        self.segments
+            .as_slice()
+            .last()
+            .map_or(&[], |segment| segment.prefix.as_slice())
     }
 
     // The root for the empty prefix, else the tree of the segment with that very prefix.
@@ -90,11 +90,10 @@ impl Manifest {
         if prefix.is_empty() {
             return Some(&self.tree);
         }
-        for segment in self.segments.as_slice() {
-            if prefix == segment.prefix.as_slice() {
-                return Some(&segment.tree);
-            }
-        }
-        None
+        let segments = self.segments.as_slice();
+        let found = segments
+            .iter()
+            .find(|segment| prefix == segment.prefix.as_slice());
+        found.map(|segment| &segment.tree)
     }
 }
