@@ -1,11 +1,18 @@
 -- The argument check over values and over their meanings.
-use Rattle.std.proofs.Common.{◌≡◌, ℕ, suc, ◌-◌, ◌<◌, Bool, true, false, cond, eqb, List, [], ◌∷◌, map, length, get_or, ℤ, Some, None, Option, refl, ap, ◌∙◌, arith}
-use Rattle.std.specs.Option.{option_map}
+use Rattle.std.proofs.Common.{◌≡◌, ℕ, ◌-◌, Bool, true, false, cond, eqb, List, [], ◌∷◌, map, length, ℤ, Some, None, Option, Err, Result, Bor, refl, sym, ap, ◌∙◌, arith}
+use Rattle.std.specs.List.{slice_get}
+use Rattle.std.specs.Option.{option_map, option_copied, ok_or, MatchOption}
+use Rattle.std.specs.Result.{result_err}
+use Rattle.table.proofs.Last.{from_last}
 use Rattle.compactions.specs.Entries.{Entry, Source, Spec, tiered, drain, spec_segment, spec_sources, spec_destination}
 use Rattle.compactions.specs.Trees.{View, Run, Tree, Manifest, views_of, runs_of}
 use Rattle.compactions.specs.Trees.{tree_for}
 use Rattle.argument_check.specs.Check.{last_under, both, adding, found, asked_view, asked_run, last_is, into_last, args_with, args_by, job_args}
-use Rattle.argument_check.specs.Answers.{passes, refused, checked}
+use Rattle.argument_check.specs.Answers.{answer_of, passes, refused, checked}
+use Rattle.compactions.specs.Refusals.{number_of}
+use Rattle.compactions.specs.declared.refusal.Refusal.{Refusal}
+use Rattle.compactions.specs.declared.refusal.Refusal.TheVariants.{InvalidCompaction}
+use Rattle.compactions.specs.declared.job_args.StartCompactionJobArgs.{StartCompactionJobArgs}
 
 -- looking up by a key of the meaning is looking up among the meanings
 module _ {A B : Type 0} (meaning : A → B) (key : B → ℕ) where
@@ -36,13 +43,20 @@ module _ {A B : Type 0} (meaning : A → B) (key : B → ℕ) where
       adding_map (asked s) rows (found (λ x. key (meaning x)) asked ss rows)
       ∙ ap (adding key (asked s) (map meaning rows)) (found_map asked ss rows)
 
--- whether the last run is the destination, read at the last place
-pub last_at : {A : Type 0} (meaning : A → Run) (d : ℕ) (rows : List A) (x : A) → 0 < length rows → last_is d (map meaning rows) ≡ eqb d (meaning (get_or rows (length rows - 1) x)).id
-last_at meaning d [] x l = absurd (omega arith)
-last_at meaning d (r ∷ []) x l = refl
-last_at meaning d (r ∷ (s ∷ rows)) x l =
-    let z : length (r ∷ (s ∷ rows)) - 1 ≡ suc (length (s ∷ rows) - 1) = omega arith in
-    rw z (last_at meaning d (s ∷ rows) x (omega arith))
+-- whether the last run is the destination, read off the last row
+pub last_is_from : {A : Type 0} (meaning : A → Run) (d : ℕ) (rows : List A) (o : Option (Bor A)) (r : Bool) (P : Bor A → Type 0) → option_copied o ≡ slice_get rows (length rows - 1) → MatchOption o (r ≡ true) P → ((x : Bor A) → P x → r ≡ eqb d (meaning x.now).id) → r ≡ last_is d (map meaning rows)
+last_is_from meaning d rows o r P e m k = go o (from_last (λ xs. last_is d (map meaning xs)) (λ x. eqb d (meaning x).id) (λ x. refl) (λ x y ys. refl) rows o e) m
+  where
+    go : (o : Option (Bor _)) → MatchOption o (rows ≡ []) (λ x. last_is d (map meaning rows) ≡ eqb d (meaning x.now).id) → MatchOption o (r ≡ true) P → r ≡ last_is d (map meaning rows)
+    go None n h = h ∙ sym (ap (λ xs. last_is d (map meaning xs)) n)
+    go (Some x) n h = k x h ∙ sym n
+
+-- a refusal that `ok_or` made of nothing, and `?` passed on
+pub refused_invalid : {X : Type 0} (o : Option X) (r : Result StartCompactionJobArgs Refusal) (e f : Refusal) → Err f ≡ ok_or o InvalidCompaction → o ≡ None → r ≡ Err e → e ≡ f → answer_of r ≡ refused 10
+refused_invalid o r e f h n p q =
+    let z : ◌≡◌ {A = Option Refusal} (Some f) (Some InvalidCompaction) = ap result_err (h ∙ ap (λ x. ok_or x InvalidCompaction) n) in
+    let y : f ≡ InvalidCompaction = cc in
+    ap answer_of p ∙ ap (λ x. refused (number_of x)) (q ∙ y)
 
 -- the check of a spec that has a destination
 pub args_at : (s : Spec) (e : Entry) (m : Manifest) (d : ℕ) (t : Option Tree) (vs : Option (List View)) (rs : Option (List Run)) → Some d ≡ spec_destination s → t ≡ tree_for (spec_segment s) m → vs ≡ found (λ v. v.id) asked_view (spec_sources s) (views_of t) → rs ≡ found (λ r. r.id) asked_run (spec_sources s) (runs_of t) → args_with e d t m vs rs ≡ args_by s e m

@@ -1,6 +1,11 @@
 -- The turns of the loops that look rows up: what is left to do from a place on.
-use Rattle.std.proofs.Common.{◌≡◌, ℕ, ◌+◌, ◌<◌, ◌≤◌, cond, eqb, List, [], ◌∷◌, ◌++◌, map, length, get_or, drop, Some, None, Option, refl, ap, ◌∙◌, append_assoc, append-nil}
+use Rattle.std.proofs.Common.{◌≡◌, ℕ, Bool, true, false, sym, ◌+◌, ◌<◌, ◌≤◌, cond, eqb, List, [], ◌∷◌, ◌++◌, map, length, get_or, drop, Some, None, Option, refl, ap, ◌∙◌, append_assoc, append-nil}
 use Rattle.std.proofs.lemmas.List.{drop_more, drop_all}
+use Rattle.std.specs.List.{find}
+use Rattle.std.specs.Option.{option_or}
+use mathlib.Core.List.{reverse}
+use Rattle.std.proofs.lemmas.Grind.{reverse_onto}
+use Rattle.std.proofs.lemmas.List.Folds.{find-append}
 use Rattle.compactions.specs.Entries.{Source}
 use Rattle.argument_check.specs.Check.{found, adding, both, last_under}
 
@@ -40,10 +45,25 @@ module _ {A S : Type 0} (key : A → ℕ) (asked : Source → Option ℕ) (meani
   pub look_end : length ss ≤ i → Some xs ≡ whole
   look_end l = rw (drop_all i ss l, append-nil) at rest
 
--- the last row with a key, from place i on
-module _ {A : Type 0} (key : A → ℕ) (k : ℕ) (rows : List A) (i : ℕ) (seen whole : Option A) (rest : last_under key k (drop i rows) seen ≡ whole) where
-  pub last_more : (x : A) (seen' : Option A) → i < length rows → x ≡ get_or rows i x → seen' ≡ cond (eqb k (key x)) (Some x) seen → last_under key k (drop (i + 1) rows) seen' ≡ whole
-  last_more x seen' l at_rows e = rw e (rw at_rows (rw (drop_more rows i x l) at rest))
+or_or : {A : Type 0} (o seen : Option A) (b : Bool) (x : A) → option_or (option_or o (cond b (Some x) None)) seen ≡ option_or o (cond b (Some x) seen)
+or_or None seen true x = refl
+or_or None seen false x = refl
+or_or (Some y) seen b x = refl
 
-  pub last_end : length rows ≤ i → seen ≡ whole
-  last_end l = rw (drop_all i rows l) at rest
+or_none : {A : Type 0} (o : Option A) → option_or o None ≡ o
+or_none None = refl
+or_none (Some x) = refl
+
+-- the last row with a key is the first one from behind
+module _ {A : Type 0} (key : A → ℕ) (k : ℕ) where
+  abbrev test : A → Bool
+  test x = eqb k (key x)
+
+  last_from_find : (rows : List A) (seen : Option A) → last_under key k rows seen ≡ option_or (find test (reverse rows)) seen
+  last_from_find [] seen = refl
+  last_from_find (x ∷ rows) seen =
+      last_from_find rows (cond (test x) (Some x) seen)
+      ∙ sym (ap (λ o. option_or o seen) (ap (find test) (reverse_onto rows x []) ∙ find-append test (reverse rows) (x ∷ [])) ∙ or_or (find test (reverse rows)) seen (test x) x)
+
+  pub last_found : (rows : List A) → find test (reverse rows) ≡ last_under key k rows None
+  last_found rows = sym (last_from_find rows None ∙ or_none (find test (reverse rows)))

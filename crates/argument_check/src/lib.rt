@@ -25,20 +25,14 @@ mod sourced;
 fn l0_of(tree: Option<&LsmTreeState>) -> &[SsTableView]
     ensures { map view_of result.now ≡ views_of (option_map (λ t. tree_of t.now) tree.entry) }
 {
-    match tree {
-        Some(tree) => tree.l0.as_slice(),
-        None => &[],
-    }
+    tree.map_or(&[], |tree| tree.l0.as_slice())
 }
 
 // A missing tree has no runs.
 fn compacted_of(tree: Option<&LsmTreeState>) -> &[SortedRun]
     ensures { map run_of result.now ≡ runs_of (option_map (λ t. tree_of t.now) tree.entry) }
 {
-    match tree {
-        Some(tree) => tree.compacted.as_slice(),
-        None => &[],
-    }
+    tree.map_or(&[], |tree| tree.compacted.as_slice())
 }
 
 // Whether the tree exists, and has no runs or the destination as its last one.
@@ -48,10 +42,8 @@ fn is_last_run(tree: Option<&LsmTreeState>, destination: u32) -> bool
     let Some(tree) = tree else {
         return false;
     };
-    match tree.compacted.as_slice().last() {
-        Some(run) => destination == run.id,
-        None => true,
-    }
+    let last = tree.compacted.as_slice().last();
+    last.is_none_or(|run| destination == run.id)
 }
 
 pub fn build_job_args(
@@ -61,17 +53,16 @@ pub fn build_job_args(
     ensures value { answer_of result ≡ checked (job_args (entry_of compaction.now) (manifest_of db_state.now)) }
     ensures law { Passing (entry_of compaction.now) (manifest_of db_state.now) (answer_of result) }
 {
-    let Some(destination) = compaction.spec.destination() else {
-        return Err(Refusal::InvalidCompaction);
-    };
+    let destination = compaction
+        .spec
+        .destination()
+        .ok_or(Refusal::InvalidCompaction)?;
     let tree = db_state.tree_for_segment(compaction.spec.segment());
     let sources = compaction.spec.sources();
-    let Some(l0_sst_views) = look_up(sources, l0_of(tree), NO_VIEW) else {
-        return Err(Refusal::InvalidCompaction);
-    };
-    let Some(sorted_runs) = look_up(sources, compacted_of(tree), SortedRun::new(0)) else {
-        return Err(Refusal::InvalidCompaction);
-    };
+    let l0_sst_views = look_up(sources, l0_of(tree), NO_VIEW).ok_or(Refusal::InvalidCompaction)?;
+    let sorted_runs = look_up(sources, compacted_of(tree), SortedRun::new(0)).ok_or(
+        Refusal::InvalidCompaction,
+    )?;
     Ok(StartCompactionJobArgs {
         id: compaction.id,
         destination,
