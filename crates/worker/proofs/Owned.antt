@@ -2,19 +2,18 @@
 use Rattle.std.proofs.Common.{◌≡◌, ℕ, ◌+◌, ◌≤◌, Bool, true, false, cond, ◌&&◌, ◌⊎◌, List, [], ◌∷◌, map, length, sym, refl, ap, ◌∙◌, subst, inl, inr, arith}
 use Rattle.std.proofs.lemmas.Bool.{cases_eq, leb-true, le-leb, false≢true}
 use Rattle.std.proofs.lemmas.Bool.Decides.{nat_tests}
-use Rattle.table.specs.Tables.{Ascending, holds, put, admits, strike}
+use Rattle.table.specs.Tables.{Ascending, holds, put, admits}
 use Rattle.table.proofs.Order.{ascending_from}
-use Rattle.table.proofs.Mapped.{ascends-map, put_map, strike-map, admits-map}
-use Rattle.table.specs.Ids.{number}
+use Rattle.table.specs.Tables.{ascends}
+use Rattle.table.proofs.Mapped.{ascends-map, put_map, admits-map}
+use Rattle.table.specs.Ids.{number, by}
 use Rattle.table.specs.declared.ulid.Ulid.{Ulid}
 use Rattle.worker_steps.specs.States.{JobRow, row_id, self_id}
 use Rattle.worker_steps.specs.Tracking.{Tracked}
 use Rattle.worker_steps.proofs.Rows.{length_put, length-put_held}
-use Rattle.worker.specs.Meanings.{row_of, rows_in, table_of, ids_in, list_of}
+use Rattle.worker.specs.Meanings.{row_of}
 use Rattle.worker.specs.Tracks.{apart, tracks}
 use Rattle.worker.specs.declared.job_progress.Progress.{Progress}
-use Rattle.worker.specs.declared.job_progress.JobProgress.{JobProgress}
-use Rattle.worker.specs.declared.left_behind.LeftBehind.{LeftBehind}
 
 and_parts : (a b : Bool) → (a && b) ≡ true → (a ≡ true) × (b ≡ true)
 and_parts true b e = (refl, e)
@@ -65,38 +64,35 @@ tracks_elim max t l e s u =
       fits = omega (arith, fits);
     }
 
--- the rows and the ids of the code ascend by their meanings
-pub table_ascends : (t : JobProgress) → Ascending row_id (table_of t)
-table_ascends t = ascending_from row_id (table_of t) (sym (ascends-map row_of row_id (rows_in t)) ∙ t.ascending)
+-- ids that ascend by their meanings
+pub list_ascends : (l : List Ulid) → ascends (by (λ u. u)) l ≡ true → Ascending self_id (map number l)
+list_ascends l e = ascending_from self_id (map number l) (sym (ascends-map number self_id l) ∙ e)
 
-pub list_ascends : (l : LeftBehind) → Ascending self_id (list_of l)
-list_ascends l = ascending_from self_id (list_of l) (sym (ascends-map number self_id (ids_in l)) ∙ l.ascending)
+-- rows and ids that ascend are tracked by their meanings, with nothing pending
+pub tracked_rows : (max : ℕ) (t : List Progress) (l : List Ulid) → ascends (by (λ p. p.id)) t ≡ true → ascends (by (λ u. u)) l ≡ true → tracks max (map row_of t) (map number l) ≡ true → Tracked max [] (map row_of t) (map number l)
+tracked_rows max t l ts ls e = tracks_elim max _ _ e (ascending_from row_id (map row_of t) (sym (ascends-map row_of row_id t) ∙ ts)) (list_ascends l ls)
 
--- so they are tracked, with nothing pending
-pub tracked_jobs : (max : ℕ) (t : JobProgress) (l : LeftBehind) → tracks max (table_of t) (list_of l) ≡ true → Tracked max [] (table_of t) (list_of l)
-tracked_jobs max t l e = tracks_elim max _ _ e (table_ascends t) (list_ascends l)
-
--- a row struck
-pub row_struck : (t t' : JobProgress) (k : ℕ) → rows_in t' ≡ strike (λ p. (row_of p).id) k (rows_in t) → table_of t' ≡ strike row_id k (table_of t)
-row_struck t t' k e = ap (map row_of) e ∙ strike-map row_of row_id k (rows_in t)
+-- a row put that finds a place
+put_done : (t t' : List Progress) (row : Progress) (done : Bool) → length (put row_id (row_of row) (map row_of t)) ≤ 8 → done ≡ admits (λ p. (row_of p).id) 8 row t → t' ≡ cond done (put (λ p. (row_of p).id) row t) t → map row_of t' ≡ put row_id (row_of row) (map row_of t)
+put_done t t' row done few said e =
+    let yes' : done ≡ true = said ∙ admits-map row_of row_id 8 row t ∙ le-leb _ 8 few in
+    ap (map row_of) (e ∙ ap (λ d. cond d (put (λ p. (row_of p).id) row t) t) yes') ∙ put_map row_of row_id row t
 
 -- a row put: it finds its place where its id is pending
-pub row_put : {max : ℕ} {l : List ℕ} (t t' : JobProgress) (row : Progress) (done : Bool) → max ≤ 8 → Tracked max ((row_of row).id ∷ []) (table_of t) l → done ≡ admits (λ p. (row_of p).id) 8 row (rows_in t) → rows_in t' ≡ cond done (put (λ p. (row_of p).id) row (rows_in t)) (rows_in t) → table_of t' ≡ put row_id (row_of row) (table_of t)
+pub row_put : {max : ℕ} {l : List ℕ} (t t' : List Progress) (row : Progress) (done : Bool) → max ≤ 8 → Tracked max ((row_of row).id ∷ []) (map row_of t) l → done ≡ admits (λ p. (row_of p).id) 8 row t → t' ≡ cond done (put (λ p. (row_of p).id) row t) t → map row_of t' ≡ put row_id (row_of row) (map row_of t)
 row_put t t' row done small b said e =
-    let few : length (put row_id (row_of row) (table_of t)) ≤ 8 = omega (arith, length_put row_id (row_of row) (table_of t), b.room) in
-    let yes' : done ≡ true = said ∙ admits-map row_of row_id 8 row (rows_in t) ∙ le-leb _ 8 few in
-    ap (map row_of) (e ∙ ap (λ d. cond d (put (λ p. (row_of p).id) row (rows_in t)) (rows_in t)) yes') ∙ put_map row_of row_id row (rows_in t)
-
--- an id listed: it finds its place where it is pending
-pub id_listed : {max : ℕ} {t : List JobRow} (l l' : LeftBehind) (id : Ulid) (done : Bool) → Tracked max (number id ∷ []) t (list_of l) → done ≡ admits (λ u. self_id (number u)) 40 id (ids_in l) → ids_in l' ≡ cond done (put (λ u. self_id (number u)) id (ids_in l)) (ids_in l) → list_of l' ≡ put self_id (number id) (list_of l)
-id_listed l l' id done b said e =
-    let few : length (put self_id (number id) (list_of l)) ≤ 40 = omega (arith, length_put self_id (number id) (list_of l), b.fits) in
-    let yes' : done ≡ true = said ∙ admits-map number self_id 40 id (ids_in l) ∙ le-leb _ 40 few in
-    ap (map number) (e ∙ ap (λ d. cond d (put (λ u. self_id (number u)) id (ids_in l)) (ids_in l)) yes') ∙ put_map number self_id id (ids_in l)
+    let few : length (put row_id (row_of row) (map row_of t)) ≤ 8 = omega (arith, length_put row_id (row_of row) (map row_of t), b.room) in
+    put_done t t' row done few said e
 
 -- a row put in the place of another
-pub row_replaced : {max : ℕ} {l : List ℕ} (t t' : JobProgress) (row : Progress) (done : Bool) → max ≤ 8 → Tracked max [] (table_of t) l → holds row_id (row_of row).id (table_of t) ≡ true → done ≡ admits (λ p. (row_of p).id) 8 row (rows_in t) → rows_in t' ≡ cond done (put (λ p. (row_of p).id) row (rows_in t)) (rows_in t) → table_of t' ≡ put row_id (row_of row) (table_of t)
+pub row_replaced : {max : ℕ} {l : List ℕ} (t t' : List Progress) (row : Progress) (done : Bool) → max ≤ 8 → Tracked max [] (map row_of t) l → holds row_id (row_of row).id (map row_of t) ≡ true → done ≡ admits (λ p. (row_of p).id) 8 row t → t' ≡ cond done (put (λ p. (row_of p).id) row t) t → map row_of t' ≡ put row_id (row_of row) (map row_of t)
 row_replaced t t' row done small b h said e =
-    let few : length (put row_id (row_of row) (table_of t)) ≤ 8 = omega (arith, length-put_held row_id (row_of row) (table_of t) b.table_ascending h, b.room) in
-    let yes' : done ≡ true = said ∙ admits-map row_of row_id 8 row (rows_in t) ∙ le-leb _ 8 few in
-    ap (map row_of) (e ∙ ap (λ d. cond d (put (λ p. (row_of p).id) row (rows_in t)) (rows_in t)) yes') ∙ put_map row_of row_id row (rows_in t)
+    let few : length (put row_id (row_of row) (map row_of t)) ≤ 8 = omega (arith, length-put_held row_id (row_of row) (map row_of t) b.table_ascending h, b.room) in
+    put_done t t' row done few said e
+
+-- an id listed: it finds its place where it is pending
+pub id_listed : {max : ℕ} {t : List JobRow} (l l' : List Ulid) (id : Ulid) (done : Bool) → Tracked max (number id ∷ []) t (map number l) → done ≡ admits (λ u. self_id (number u)) 40 id l → l' ≡ cond done (put (λ u. self_id (number u)) id l) l → map number l' ≡ put self_id (number id) (map number l)
+id_listed l l' id done b said e =
+    let few : length (put self_id (number id) (map number l)) ≤ 40 = omega (arith, length_put self_id (number id) (map number l), b.fits) in
+    let yes' : done ≡ true = said ∙ admits-map number self_id 40 id l ∙ le-leb _ 40 few in
+    ap (map number) (e ∙ ap (λ d. cond d (put (λ u. self_id (number u)) id l) l) yes') ∙ put_map number self_id id l

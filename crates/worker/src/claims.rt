@@ -21,7 +21,8 @@ pub struct Claim {
     entry: Compaction,
 }
 
-// The claimed entries that wait, in their order.
+// The claimed entries that wait, in their order. The rows lie in the value itself and none moves, since
+// no call of the worker may allocate: so an index says how many are taken.
 pub struct Claims {
     entries: Rows<Compaction, 8>,
     at: usize,

@@ -6,7 +6,6 @@ pub mod compaction_worker;
 mod dispatch;
 mod entry_work;
 pub mod job_progress;
-mod left_behind;
 pub mod making;
 pub mod notices;
 mod owned_jobs;

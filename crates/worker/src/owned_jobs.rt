@@ -1,15 +1,17 @@
-// The jobs that the worker owns: those that it runs, in the job table, and those that it left behind.
-use crate::job_progress::JobProgress;
-use crate::left_behind::LeftBehind;
+// The jobs that the worker owns: those that it runs, in the job table, and the left-behind list, ids
+// whose claim may still stand in the record though no job runs for them. Both ascend by id.
+use crate::job_progress::Progress;
 use std::marker::Model;
+use table::fixed_table::FixedTable;
+use table::ulid::Ulid;
 
 mod methods;
 
 #[derive(Drop)]
 pub struct OwnedJobs {
     maximum: usize,
-    job_progress: JobProgress,
-    left_behind: LeftBehind,
+    job_progress: FixedTable<Progress, 8>,
+    left_behind: FixedTable<Ulid, 40>,
 }
 
 impl Model for OwnedJobs {

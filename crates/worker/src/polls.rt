@@ -20,7 +20,7 @@ pub enum PollEnd {
 }
 
 // What a poll answers; its counts hold after a fault too.
-#[derive(Clone, Copy)]
+#[derive(Clone, Copy, PartialEq, Eq, Debug)]
 pub struct PollAnswer {
     pub end: Result<PollEnd, WorkerFault>,
     pub counts: PollCounts,

@@ -9,11 +9,10 @@ ghost use Rattle.worker.specs.Meanings.{row_of};
 ghost use Rattle.worker.specs.Owned.{with_table, with_list};
 
 use super::OwnedJobs;
-use crate::job_progress::{JobProgress, Progress};
-use crate::left_behind::LeftBehind;
+use crate::job_progress::Progress;
+use crate::owning::runs_under;
 use stores::draft::Draft;
-use table::row::Row;
-use table::scan;
+use table::fixed_table::FixedTable;
 use table::ulid::Ulid;
 
 impl OwnedJobs {
@@ -21,10 +20,14 @@ impl OwnedJobs {
         requires { maximum ≤ 8 }
         ensures { result ≡ record { maximum = maximum; table = []; left = [] } }
     {
+        let blank = Progress {
+            id: Ulid { high: 0, low: 0 },
+            ctx: None,
+        };
         OwnedJobs {
             maximum,
-            job_progress: JobProgress::new(),
-            left_behind: LeftBehind::new(),
+            job_progress: FixedTable::new(blank),
+            left_behind: FixedTable::new(blank.id),
         }
     }
 
@@ -33,13 +36,13 @@ impl OwnedJobs {
         ensures value { result ≡ self.now.maximum - length self.now.table }
         ensures tracked { Tracked self.now.maximum [] self.now.table self.now.left }
     {
-        self.maximum - self.job_progress.as_slice().len()
+        self.maximum - self.job_progress.len()
     }
 
     pub(crate) fn has_row(&self, id: Ulid) -> bool
         ensures { result ≡ holds row_id (id-number id) self.now.table }
     {
-        scan::find(self.job_progress.as_slice(), id).is_some()
+        self.job_progress.holds(id)
     }
 
     // Without the row of an id, which is pending if there was one; says whether there was.
@@ -56,7 +59,7 @@ impl OwnedJobs {
         requires { Tracked self.old.maximum ((row_of row).id ∷ []) self.old.table self.old.left }
         ensures { self.new ≡ with_table self.old (put row_id (row_of row) self.old.table) }
     {
-        self.job_progress.put(row);
+        let _ = self.job_progress.put(row);
     }
 
     // A row's context, replaced; says whether there is such a row.
@@ -67,7 +70,7 @@ impl OwnedJobs {
         if !self.has_row(row.id) {
             return false;
         }
-        self.job_progress.put(row);
+        let _ = self.job_progress.put(row);
         true
     }
 
@@ -76,14 +79,14 @@ impl OwnedJobs {
         requires { Tracked self.old.maximum (id-number id ∷ []) self.old.table self.old.left }
         ensures { self.new ≡ with_list self.old (put self_id (id-number id) self.old.left) }
     {
-        self.left_behind.put(id);
+        let _ = self.left_behind.put(id);
     }
 
     // Strikes the listed ids that have no entry Running under the number.
     pub(crate) fn keep_running(&mut self, draft: &Draft, number: u32)
         ensures { self.new ≡ with_list self.old (still_left number (draft_of draft.now).entries self.old.left) }
     {
-        self.left_behind.keep_running(draft, number);
+        self.left_behind.retain(|id| runs_under(draft, *id, number));
     }
 
     pub(crate) fn rows(&self) -> &[Progress]
