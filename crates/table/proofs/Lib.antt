@@ -1,4 +1,3 @@
-pub mod Shifts
 pub mod Scans
 pub mod Proved
 pub mod Mapped

@@ -2,6 +2,7 @@
 #![tactic(auto)]
 
 pub mod fixed_table;
+mod lend;
 pub mod row;
 pub mod rows;
 pub mod scan;

@@ -6,8 +6,8 @@ mod methods;
 
 #[derive(Copy)]
 pub struct Rows<T, const N: usize> {
-    items: [T; N],
-    len: usize,
+    pub(crate) items: [T; N],
+    pub(crate) len: usize,
     ghost whole: { length items ≡ N },
     ghost within: { len ≤ N },
 }

@@ -6,6 +6,7 @@ ghost use Rattle.table.specs.Laws.{Lawful};
 ghost use Rattle.table.specs.Tables.{lookup, holds, put, admits, strike};
 
 use super::FixedTable;
+use crate::lend::{put_among, strike_among};
 use crate::row::Row;
 use crate::rows::Rows;
 use crate::scan;
@@ -65,14 +66,9 @@ impl<R: Row, const N: usize> FixedTable<R, N> {
         ensures value { is_ok result ≡ admits (by R.named) N row (rows_in self.old) }
         ensures after { rows_in self.new ≡ (if is_ok result then put (by R.named) row (rows_in self.old) else rows_in self.old) }
     {
-        let id = row.id();
-        let rows = self.as_slice();
-        let at = scan::place(rows, id);
-        if scan::is_at(rows, at, id) {
-            self.rows.set(at, row);
-            return Ok(());
-        }
-        self.rows.insert(at, row, Full)
+        let (len, done) = put_among(&mut self.rows.items, self.rows.len, row);
+        self.rows.len = len;
+        done
     }
 
     // Without the row of an id; whether there was one.
@@ -80,13 +76,9 @@ impl<R: Row, const N: usize> FixedTable<R, N> {
         ensures value { result ≡ holds (by R.named) (number id) (rows_in self.old) }
         ensures after { rows_in self.new ≡ strike (by R.named) (number id) (rows_in self.old) }
     {
-        let rows = self.as_slice();
-        let at = scan::spot(rows, id);
-        if at == rows.len() {
-            return false;
-        }
-        self.rows.remove(at);
-        true
+        let (len, had) = strike_among(&mut self.rows.items, self.rows.len, id);
+        self.rows.len = len;
+        had
     }
 
     pub fn clear(&mut self)

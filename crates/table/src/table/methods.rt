@@ -91,12 +91,7 @@ impl<'a, R: Row> Table<'a, R> {
         ensures lender { self.new.rows.ghost_name ≡ self.old.rows.ghost_name }
     {
         let len = self.len;
-        let mut i = len;
-        while i > at {
-            let below = self.rows[i - 1];
-            self.rows[i] = below;
-            i -= 1;
-        }
+        self.rows.copy_within(at..len, at + 1);
         self.rows[at] = row;
         self.len = len + 1;
     }
@@ -107,14 +102,9 @@ impl<'a, R: Row> Table<'a, R> {
         ensures room { room_of self.new ≡ room_of self.old }
         ensures lender { self.new.rows.ghost_name ≡ self.old.rows.ghost_name }
     {
-        let last = self.len - 1;
-        let mut i = at;
-        while i < last {
-            let above = self.rows[i + 1];
-            self.rows[i] = above;
-            i += 1;
-        }
-        self.len = last;
+        let len = self.len;
+        self.rows.copy_within(at + 1..len, at);
+        self.len = len - 1;
     }
 
     pub fn put(&mut self, row: R) -> Result<(), Full>

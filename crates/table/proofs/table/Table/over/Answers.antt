@@ -1,7 +1,7 @@
 use Rattle.std.proofs.Common.{take, refl, ap, ◌∙◌}
 use Rattle.table.specs.Ids.{by}
 use Rattle.table.proofs.Proved.{lawful}
-use Rattle.table.proofs.Shifts.{take_min}
+use Rattle.std.proofs.lemmas.List.{take_min}
 use Rattle.table.proofs.table.Table.over.Goals as goal
 
 pub returns : goal.returns
