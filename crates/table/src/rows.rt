@@ -1,7 +1,6 @@
 // Up to N items by value: the first `len` places count.
 ghost use Rattle.std.specs.Prelude.{◌≡◌, ◌≤◌, length};
 
-mod edits;
 mod methods;
 
 #[derive(Copy)]

@@ -1,6 +1,8 @@
-ghost use Rattle.std.specs.Prelude.{◌≡◌, [], ◌∷◌, ◌++◌, length, is_ok, Ok, Err, Some, None, IfOk, if◌then◌else◌, nat_le, nat_lt, ⊤};
+ghost use Rattle.std.specs.Prelude.{◌≡◌, ℕ, Bool, true, [], ◌∷◌, ◌++◌, length, filter, is_ok, Ok, Err, Some, None, IfOk, if◌then◌else◌, nat_le, nat_lt, ⊤};
 ghost use Rattle.std.specs.Result.{result_err};
 ghost use Rattle.table.specs.Counted.{items_of};
+ghost use Rattle.table.specs.Keeping.{Answers};
+ghost use Rattle.table.specs.Tables.{ascends};
 
 use super::Rows;
 use std::alloc::AllocError;
@@ -63,5 +65,20 @@ impl<T: Copy, const N: usize> Rows<T, N> {
         ensures { items_of self.new ≡ [] }
     {
         self.len = 0;
+    }
+
+    // The items for which `keep` answers true, in their order.
+    pub(crate) fn retain<F: Fn(&T) -> bool>(&mut self, keep: F)
+        requires { F.IsAlwaysCallable keep }
+        ensures kept { (p : T → Bool) → Answers F.Fn keep p → items_of self.new ≡ filter p (items_of self.old) }
+        ensures ordered { (key : T → ℕ) → ascends key (items_of self.old) ≡ true → ascends key (items_of self.new) ≡ true }
+    {
+        let all = *self;
+        self.len = 0;
+        for item in all.as_slice() {
+            if keep(item) {
+                let _ = self.push(*item, ());
+            }
+        }
     }
 }
