@@ -8,3 +8,4 @@ pub mod Edits
 pub mod Kept
 pub mod Walks
 pub mod Last
+pub mod Lent

@@ -3,13 +3,15 @@ ghost use Rattle.std.specs.List.{slice_get, insert, remove};
 ghost use Rattle.table.specs.Ids.{by, number};
 ghost use Rattle.table.specs.Laws.{Lawful};
 ghost use Rattle.table.specs.Tables.{ascends, lookup, holds, put, admits, strike, first_with, not_before, named_so, hits};
-ghost use Rattle.table.specs.Meaning.{rows_of, room_of};
+ghost use Rattle.table.specs.Meaning.{rows_of, room_of, lent_of, with_rows};
 
 use super::{Full, Table};
 use crate::row::Row;
 use crate::scan;
 use crate::ulid::Ulid;
 
+// A clause `lender` says that the rows are still the same loan: of a struct that holds a `&mut` that has
+// to stand on each function that changes it.
 impl<'a, R: Row> Table<'a, R> {
     // The first `len` of the rows, or all of them where there are fewer.
     pub fn over(rows: &'a mut [R], len: usize) -> Table<'a, R>
@@ -76,8 +78,7 @@ impl<'a, R: Row> Table<'a, R> {
 
     fn write_at(&mut self, at: usize, row: R)
         requires { at < self.old.len }
-        ensures after { rows_of self.new ≡ slice_set (rows_of self.old) at row }
-        ensures room { room_of self.new ≡ room_of self.old }
+        ensures after { lent_of self.new ≡ with_rows (lent_of self.old) (slice_set (rows_of self.old) at row) }
         ensures lender { self.new.rows.ghost_name ≡ self.old.rows.ghost_name }
     {
         self.rows[at] = row;
@@ -86,8 +87,7 @@ impl<'a, R: Row> Table<'a, R> {
     fn insert_at(&mut self, at: usize, row: R)
         requires room { self.old.len < room_of self.old }
         requires within { at ≤ self.old.len }
-        ensures after { rows_of self.new ≡ insert (rows_of self.old) at row }
-        ensures room { room_of self.new ≡ room_of self.old }
+        ensures after { lent_of self.new ≡ with_rows (lent_of self.old) (insert (rows_of self.old) at row) }
         ensures lender { self.new.rows.ghost_name ≡ self.old.rows.ghost_name }
     {
         let len = self.len;
@@ -98,8 +98,7 @@ impl<'a, R: Row> Table<'a, R> {
 
     fn remove_at(&mut self, at: usize)
         requires { at < self.old.len }
-        ensures after { rows_of self.new ≡ remove (rows_of self.old) at }
-        ensures room { room_of self.new ≡ room_of self.old }
+        ensures after { lent_of self.new ≡ with_rows (lent_of self.old) (remove (rows_of self.old) at) }
         ensures lender { self.new.rows.ghost_name ≡ self.old.rows.ghost_name }
     {
         let len = self.len;
@@ -109,8 +108,7 @@ impl<'a, R: Row> Table<'a, R> {
 
     pub fn put(&mut self, row: R) -> Result<(), Full>
         ensures value { is_ok result ≡ admits (by R.named) (room_of self.old) row (rows_of self.old) }
-        ensures after { rows_of self.new ≡ (if is_ok result then put (by R.named) row (rows_of self.old) else rows_of self.old) }
-        ensures room { room_of self.new ≡ room_of self.old }
+        ensures after { lent_of self.new ≡ with_rows (lent_of self.old) (if is_ok result then put (by R.named) row (rows_of self.old) else rows_of self.old) }
         ensures ordered { ascends (by R.named) (rows_of self.old) ≡ true → ascends (by R.named) (rows_of self.new) ≡ true }
         ensures lender { self.new.rows.ghost_name ≡ self.old.rows.ghost_name }
     {
@@ -129,8 +127,7 @@ impl<'a, R: Row> Table<'a, R> {
 
     pub fn strike(&mut self, id: Ulid) -> bool
         ensures value { result ≡ holds (by R.named) (number id) (rows_of self.old) }
-        ensures after { rows_of self.new ≡ strike (by R.named) (number id) (rows_of self.old) }
-        ensures room { room_of self.new ≡ room_of self.old }
+        ensures after { lent_of self.new ≡ with_rows (lent_of self.old) (strike (by R.named) (number id) (rows_of self.old)) }
         ensures ordered { ascends (by R.named) (rows_of self.old) ≡ true → ascends (by R.named) (rows_of self.new) ≡ true }
         ensures lender { self.new.rows.ghost_name ≡ self.old.rows.ghost_name }
     {
@@ -143,8 +140,7 @@ impl<'a, R: Row> Table<'a, R> {
     }
 
     pub fn clear(&mut self)
-        ensures after { rows_of self.new ≡ [] }
-        ensures room { room_of self.new ≡ room_of self.old }
+        ensures after { lent_of self.new ≡ with_rows (lent_of self.old) [] }
         ensures lender { self.new.rows.ghost_name ≡ self.old.rows.ghost_name }
     {
         self.len = 0;

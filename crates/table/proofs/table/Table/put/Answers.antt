@@ -5,6 +5,7 @@ use Rattle.table.specs.Meaning.{rows_of}
 use Rattle.table.specs.Tables.{ascends, not_before}
 use Rattle.table.proofs.Order.{put_ascends}
 use Rattle.table.proofs.Scans.{hits_within, first_with_within, over_is_put, over_is_admitted, between_is_put, between_is_admitted}
+use Rattle.table.proofs.Lent.{same_lent}
 use Rattle.table.proofs.table.Table.put.Goals as goal
 
 pub write_at-requires : goal.write_at-requires
@@ -20,11 +21,11 @@ returns-then-is_at g c =
     let xs = rows_of c.args.self.now in
     let e = ap number c.id-id.ensures in
     let h = sym c.is_at.ensures ∙ c.if-is_at.true in
-    let after = c.write_at.ensures.after ∙ sym (over_is_put key c.args.row _ _ xs e c.place-at.ensures h) in
+    let after = ap (λ t. t.rows) c.write_at.ensures.after ∙ sym (over_is_put key c.args.row _ _ xs e c.place-at.ensures h) in
+    let room = ap (λ t. t.room) c.write_at.ensures.after in
     record {
       value = sym (over_is_admitted key c.args.row _ _ xs e c.place-at.ensures _ (search rules) h);
-      after = after;
-      room = c.write_at.ensures.room;
+      after = same_lent after room;
       ordered = λ a. ap (ascends key) after ∙ put_ascends key c.args.row xs a;
       lender = c.write_at.ensures.lender;
     }
@@ -39,7 +40,6 @@ returns-then-is_full g c =
     record {
       value = sym (between_is_admitted key c.args.row _ _ xs e c.place-at.ensures _ h ∙ le-ltb _ _ (omega arith));
       after = search rules;
-      room = search rules;
       ordered = λ a. a;
       lender = search rules;
     }
@@ -60,11 +60,11 @@ returns g c =
     let e = ap number c.id-id.ensures in
     let h = sym c.is_at.ensures ∙ c.if-is_at.false in
     let f = eqb-false _ _ (sym c.is_full.ensures ∙ c.if-is_full.false) in
-    let after = c.insert_at.ensures.after ∙ sym (between_is_put key c.args.row _ _ xs e c.place-at.ensures h) in
+    let after = ap (λ t. t.rows) c.insert_at.ensures.after ∙ sym (between_is_put key c.args.row _ _ xs e c.place-at.ensures h) in
+    let room = ap (λ t. t.room) c.insert_at.ensures.after in
     record {
       value = sym (between_is_admitted key c.args.row _ _ xs e c.place-at.ensures _ h ∙ lt-ltb _ _ (omega arith));
-      after = after;
-      room = c.insert_at.ensures.room;
+      after = same_lent after room;
       ordered = λ a. ap (ascends key) after ∙ put_ascends key c.args.row xs a;
       lender = c.insert_at.ensures.lender;
     }

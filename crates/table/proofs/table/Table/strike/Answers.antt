@@ -1,4 +1,4 @@
-use Rattle.std.proofs.Common.{◌≡◌, length, sym, ap, ◌∙◌, arith, rules}
+use Rattle.std.proofs.Common.{◌≡◌, refl, length, sym, ap, ◌∙◌, arith, rules}
 use Rattle.std.proofs.lemmas.Bool.{lt-ltb, le-ltb}
 use Rattle.std.specs.List.{remove}
 use Rattle.table.specs.Ids.{by, number}
@@ -6,6 +6,7 @@ use Rattle.table.specs.Meaning.{rows_of}
 use Rattle.table.specs.Tables.{ascends, named_so}
 use Rattle.table.proofs.Order.{strike_ascends}
 use Rattle.table.proofs.Scans.{holds_at, strike_at, strike_past, first_with_within}
+use Rattle.table.proofs.Lent.{same_lent}
 use Rattle.table.proofs.table.Table.strike.Goals as goal
 
 pub returns-then-spot-self : goal.returns-then-spot-self
@@ -16,8 +17,7 @@ returns-then-spot-self g c =
     let n : length xs ≡ c.args.self.now.len = search rules in
     record {
       value = sym (holds_at key k xs ∙ le-ltb _ _ (omega arith));
-      after = sym (strike_past key k xs (omega arith));
-      room = search rules;
+      after = same_lent (sym (strike_past key k xs (omega arith))) refl;
       ordered = λ a. a;
       lender = search rules;
     }
@@ -36,11 +36,11 @@ returns g c =
     let xs = rows_of c.args.self.now in
     let n : length xs ≡ c.args.self.now.len = search rules in
     let w = first_with_within (named_so key k) xs in
-    let after = c.remove_at.ensures.after ∙ ap (remove xs) c.spot-spot.ensures ∙ sym (strike_at key k xs) in
+    let after = ap (λ t. t.rows) c.remove_at.ensures.after ∙ ap (remove xs) c.spot-spot.ensures ∙ sym (strike_at key k xs) in
+    let room = ap (λ t. t.room) c.remove_at.ensures.after in
     record {
       value = sym (holds_at key k xs ∙ lt-ltb _ _ (omega arith));
-      after = after;
-      room = c.remove_at.ensures.room;
+      after = same_lent after room;
       ordered = λ a. ap (ascends key) after ∙ strike_ascends key k xs a;
       lender = c.remove_at.ensures.lender;
     }
