@@ -1,7 +1,6 @@
 -- Rows of a job table, the jobs that they mean, and the jobs' arguments.
-use Rattle.std.proofs.Common.{◌≡◌, ℕ, Bool, true, false, cond, ltb, List, map, length, sym, refl, ap, ◌∙◌, arith}
+use Rattle.std.proofs.Common.{◌≡◌, ℕ, Bool, true, false, cond, ltb, List, map, length, refl, ◌∙◌, arith}
 use Rattle.std.proofs.lemmas.List.{length-map}
-use Rattle.std.proofs.lemmas.Bool.{false≢true}
 use Rattle.std.proofs.lemmas.Bool.Decides.{nat_tests}
 use Rattle.table.specs.Ids.{by}
 use Rattle.table.specs.Tables.{ascends, holds, put, admits, strike}
@@ -11,7 +10,7 @@ use Rattle.table.proofs.Mapped.{holds-map, put_map, strike-map}
 use Rattle.compactions.specs.Jobs.{Args}
 use Rattle.executors.specs.declared.job_table.Job as rows
 use Rattle.executors.specs.Executors.{job_id, may_start}
-use Rattle.executors.specs.Jobs.{Job, Jobs, id_of, args_in, following, begun, ended}
+use Rattle.executors.specs.Jobs.{Jobs, id_of, args_in, begun, ended}
 use Rattle.executors.specs.Tables.{job_of}
 
 -- a new row fits exactly if a place is free
@@ -34,12 +33,8 @@ args_at xs = map (λ j. j.args) (map job_of xs)
 pub holds_args : (i : ℕ) (xs : List rows.Job) → holds row_id i xs ≡ holds job_id i (args_at xs)
 holds_args i xs = holds-map job_of id_of i xs ∙ holds-map (λ j. j.args) job_id i (map job_of xs)
 
--- a job that runs may not start
-may_not : (xs : List rows.Job) (i : ℕ) → holds row_id i xs ≡ true → may_start 8 i (args_at xs) ≡ false
-may_not xs i h = let e = holds_args i xs in grind arith
-
--- one that does not may exactly if its row fits
-may_new : (xs : List rows.Job) (r : rows.Job) → ascends row_id xs ≡ true → holds row_id (row_id r) xs ≡ false → may_start 8 (row_id r) (args_at xs) ≡ admits row_id 8 r xs
+-- a job that does not run may start exactly if its row fits
+pub may_new : (xs : List rows.Job) (r : rows.Job) → ascends row_id xs ≡ true → holds row_id (row_id r) xs ≡ false → may_start 8 (row_id r) (args_at xs) ≡ admits row_id 8 r xs
 may_new xs r a h =
     let e = holds_args (row_id r) xs in
     let n = admits_new row_id 8 r xs a h in
@@ -51,11 +46,6 @@ pub args_begun : (b : Bool) (a : Args) (t : Jobs) → args_in (cond b (begun a t
 args_begun true a t = put_map (λ j. j.args) job_id _ t.running
 args_begun false a t = refl
 
--- what a start leaves
-pub begun_from : (b : Bool) (a : Args) (t : Jobs) (js : List Job) (n : ℕ) → b ≡ true → js ≡ cond b (put id_of (record { args = a; started = t.next }) t.running) t.running → n ≡ following t.next → record { running = js; next = n } ≡ cond b (begun a t) t
-begun_from true a t js n e f g = cc
-begun_from false a t js n e f g = absurd (false≢true e)
-
 -- the arguments after an end
 pub args_ended : (i : ℕ) (t : Jobs) → args_in (ended i t) ≡ strike job_id i (args_in t)
 args_ended i t = strike-map (λ j. j.args) job_id i t.running
@@ -63,23 +53,3 @@ args_ended i t = strike-map (λ j. j.args) job_id i t.running
 -- what an end leaves of the rows, by meaning
 pub rows_ended : (i n : ℕ) (xs ys : List rows.Job) → ys ≡ strike row_id i xs → table_with ys n ≡ ended i (table_with xs n)
 rows_ended i n xs ys e = let p = strike-map job_of id_of i xs in cc
-
--- an insertion by its rows: its answer, and what it leaves
-abbrev pub Inserted : rows.Job → Bool → List rows.Job → List rows.Job → Type 0
-Inserted r b xs ys = (b ≡ may_start 8 (row_id r) (args_at xs)) × (map job_of ys ≡ cond b (put id_of (job_of r) (map job_of xs)) (map job_of xs))
-
--- where the id runs already
-pub inserted_not : (r : rows.Job) (b : Bool) (xs ys zs : List rows.Job) → zs ≡ xs → true ≡ holds row_id (row_id r) zs → b ≡ false → ys ≡ zs → Inserted r b xs ys
-inserted_not r b xs ys zs s h e f =
-    let n = may_not xs (row_id r) (sym (ap (holds row_id (row_id r)) s) ∙ sym h) in
-    (cc, rw e (ap (map job_of) (f ∙ s)))
-
--- where it does not
-pub inserted_new : (r : rows.Job) (b : Bool) (xs ys zs : List rows.Job) → zs ≡ xs → ascends row_id xs ≡ true → false ≡ holds row_id (row_id r) zs → b ≡ admits row_id 8 r zs → ys ≡ cond b (put row_id r zs) zs → Inserted r b xs ys
-inserted_new r b xs ys zs s a h e f =
-    let n = may_new xs r a (sym (ap (holds row_id (row_id r)) s) ∙ sym h) in
-    (e ∙ ap (admits row_id 8 r) s ∙ sym n, ap (map job_of) (f ∙ ap (λ us. cond b (put row_id r us) us) s) ∙ by_meaning b)
-  where
-    by_meaning : (v : Bool) → map job_of (cond v (put row_id r xs) xs) ≡ cond v (put id_of (job_of r) (map job_of xs)) (map job_of xs)
-    by_meaning true = put_map job_of id_of r xs
-    by_meaning false = refl

@@ -1,2 +1,3 @@
 pub mod JobRows
 pub mod Finds
+pub mod Oldest

@@ -1,9 +1,6 @@
-// The running jobs of an executor, in one ordered table of at most eight rows.
-ghost use Rattle.std.specs.Prelude.{◌≡◌, ◌≤◌, true, length, take};
-ghost use Rattle.table.specs.Ids.{by};
-ghost use Rattle.table.specs.Tables.{ascends};
-
+// The running jobs of an executor, in one ordered table of at most eight.
 use compactions::job_args::StartCompactionJobArgs;
+use table::fixed_table::FixedTable;
 use table::row::Row;
 use table::ulid::Ulid;
 
@@ -24,13 +21,9 @@ impl Row for Job {
     }
 }
 
-// The first `len` rows count, in ascending order of their ids; `next` is the number of the next start.
+// The jobs, ascending by their ids; `next` is the number of the next start.
 #[derive(Drop)]
 pub struct JobTable {
-    rows: [Job; 8],
-    len: usize,
+    jobs: FixedTable<Job, 8>,
     next: u64,
-    ghost whole: { length rows ≡ 8 },
-    ghost within: { len ≤ 8 },
-    ghost ascending: { ascends (by (λ j. j.args.id)) (take len rows) ≡ true },
 }

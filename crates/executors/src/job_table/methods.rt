@@ -6,7 +6,7 @@ ghost use Rattle.table.specs.Tables.{holds, put, strike};
 ghost use Rattle.compactions.specs.Jobs.{args_of};
 ghost use Rattle.executors.specs.Executors.{job_id, may_start, left_by};
 ghost use Rattle.executors.specs.Notices.{notice_of};
-ghost use Rattle.executors.specs.Jobs.{id_of, args_in, begun, ended, emptied, settled, older, oldest};
+ghost use Rattle.executors.specs.Jobs.{id_of, args_in, begun, ended, emptied, settled, oldest};
 ghost use Rattle.executors.specs.Tables.{job_of, table_of};
 ghost use Rattle.executors.specs.Lists.{first_running, behind_running};
 
@@ -15,11 +15,10 @@ use crate::compactor_executor::WorkerMessage;
 use compactions::db_state::SortedRun;
 use compactions::job_args::StartCompactionJobArgs;
 use compactions::manifest::LsmTreeState;
-use table::scan;
-use table::table::Table;
+use table::fixed_table::FixedTable;
 use table::ulid::Ulid;
 
-// What fills the rows that do not count.
+// What fills the places that do not count.
 fn blank() -> Job {
     let args = StartCompactionJobArgs {
         id: Ulid { high: 0, low: 0 },
@@ -40,8 +39,7 @@ impl JobTable {
         ensures { table_of result ≡ record { running = []; next = 0 } }
     {
         JobTable {
-            rows: [blank(); 8],
-            len: 0,
+            jobs: FixedTable::new(blank()),
             next: 0,
         }
     }
@@ -52,12 +50,7 @@ impl JobTable {
         ensures running { (table_of self.new).running ≡ (if result then put id_of (job_of row) (table_of self.old).running else (table_of self.old).running) }
         ensures next { self.new.next ≡ self.old.next }
     {
-        let len = self.len;
-        let mut table = Table::over(&mut self.rows, len);
-        let fits = !table.holds(row.args.id) && table.put(row).is_ok();
-        let len = table.len();
-        self.len = len;
-        fits
+        !self.jobs.holds(row.args.id) && self.jobs.put(row).is_ok()
     }
 
     // One job more, of the next start, unless its id runs already or no row is free.
@@ -83,18 +76,13 @@ impl JobTable {
         ensures after { table_of self.new ≡ ended (number id) (table_of self.old) }
         ensures jobs { args_in (table_of self.new) ≡ strike job_id (number id) (args_in (table_of self.old)) }
     {
-        let len = self.len;
-        let mut table = Table::over(&mut self.rows, len);
-        let ran = table.strike(id);
-        let len = table.len();
-        self.len = len;
-        ran
+        self.jobs.strike(id)
     }
 
     pub(crate) fn clear(&mut self)
         ensures { table_of self.new ≡ emptied (table_of self.old) }
     {
-        self.len = 0;
+        self.jobs.clear();
     }
 
     // Ends the job of a finish.
@@ -111,27 +99,17 @@ impl JobTable {
     pub(crate) fn runs(&self, id: Ulid) -> bool
         ensures { result ≡ holds job_id (number id) (args_in (table_of self.now)) }
     {
-        scan::find(&self.rows[..self.len], id).is_some()
+        self.jobs.holds(id)
     }
 
-    // The job of the least start.
+    // The job of the least start; of equal ones the first.
     pub(crate) fn oldest(&self) -> Option<Job>
         ensures { option_map job_of result ≡ oldest (table_of self.now).running }
     {
-        let mut oldest = None;
-        for job in &self.rows[..self.len] {
-            oldest = Some(older(oldest, *job));
-        }
-        oldest
-    }
-}
-
-// The one of two jobs that started first.
-fn older(seen: Option<Job>, job: Job) -> Job
-    ensures { Some (job_of result) ≡ older (option_map job_of seen) (job_of job) }
-{
-    match seen {
-        Some(seen) if seen.started <= job.started => seen,
-        _ => job,
+        self.jobs
+            .as_slice()
+            .iter()
+            .min_by_key(|job| job.started)
+            .copied()
     }
 }

@@ -1,24 +1,17 @@
-use Rattle.std.proofs.Common.{◌≡◌, cond, not, take, sym, refl, ap, ◌∙◌, rules}
-use Rattle.table.specs.Meaning.{rows_of, room_of}
-use Rattle.table.specs.Tables.{put, admits}
-use Rattle.executors.proofs.JobRows.{row_id, Inserted, inserted_not, inserted_new}
+use Rattle.std.proofs.Common.{◌≡◌, false, sym, ◌∙◌, rules}
+use Rattle.table.specs.Fixed.{rows_in}
+use Rattle.table.specs.Tables.{holds}
+use Rattle.table.proofs.Mapped.{put_map}
+use Rattle.executors.specs.Tables.{job_of}
+use Rattle.executors.specs.Jobs.{id_of}
+use Rattle.executors.proofs.JobRows.{row_id, may_new}
 use Rattle.executors.proofs.job_table.JobTable.insert.Goals as goal
-use Rattle.executors.proofs.job_table.JobTable.insert.Goals.{then-not-holds, else-not-holds}
 
-pub returns : goal.returns
-returns c =
-    let row = c.args.row in
-    let xs = take c.args.self.now.len c.args.self.now.rows in
-    let zs = rows_of c.over-table.result in
-    let room : room_of c.over-table.result ≡ 8 = search rules in
-    let k : take c.len-len.result c.if-not-holds.table.rows.now ≡ rows_of c.if-not-holds.table = search rules in
-    let said : Inserted row c.if-not-holds.fits xs (take c.len-len.result c.if-not-holds.table.rows.now) =
-    elim c.if-not-holds.branch [
-      | then-not-holds w ↦
-          let fits = w.fits-is ∙ w.is_ok-fits.ensures.value in
-          inserted_new row _ xs _ zs c.over-table.ensures.rows c.args.self.now.ascending w.if-not-holds.ensures
-          (fits ∙ w.put.ensures.value ∙ ap (λ n. admits row_id n row zs) room)
-          (k ∙ ap rows_of w.table-is ∙ w.put.ensures.after ∙ ap (λ b. cond b (put row_id row zs) zs) (sym fits))
-      | else-not-holds w ↦ inserted_not row _ xs _ zs c.over-table.ensures.rows w.if-not-holds.ensures (w.fits-is ∙ ap not w.if-not-holds.false) (k ∙ ap rows_of w.table-is)
-    ] in
-    record { value = said.0; running = said.1; next = refl }
+pub returns-then-not-holds-clause-value : goal.returns-then-not-holds-clause-value
+returns-then-not-holds-clause-value c =
+    let t = c.args.self.now.jobs in
+    let free : holds row_id (row_id c.args.row) (rows_in t) ≡ false = search rules in
+    c.is_ok.ensures.value ∙ c.put.ensures.value ∙ sym (may_new (rows_in t) c.args.row t.ascending free)
+
+pub returns-then-not-holds-clause-running : goal.returns-then-not-holds-clause-running
+returns-then-not-holds-clause-running c = let p = put_map job_of id_of c.args.row (rows_in c.args.self.now.jobs) in search rules
