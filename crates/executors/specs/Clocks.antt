@@ -6,10 +6,6 @@ pub record Readings : Type 0 where
   pub ahead : List ℤ
   pub last : ℤ
 
--- a clock stands for its readings
-abbrev pub readings_of : Readings → Readings
-readings_of t = t
-
 -- the next reading: the first ahead, else the last again
 abbrev pub reading : Readings → ℤ
 reading t = elim t.ahead [ [] ↦ t.last | x ∷ xs ↦ x ]

@@ -9,11 +9,7 @@ abbrev pub answer_of : Result manifests.Manifest ℕ → Result Manifest ℕ
 answer_of (Ok m) = Ok (manifest_of m)
 answer_of (Err c) = Err c
 
--- a source stands for the answers ahead
-abbrev pub answers_of : List (Result Manifest ℕ) → List (Result Manifest ℕ)
-answers_of xs = xs
-
--- the first of them; after the end cause 0
+-- the first of the answers ahead; after the end cause 0
 abbrev pub given : List (Result Manifest ℕ) → Result Manifest ℕ
 given [] = Err 0
 given (a ∷ rest) = a

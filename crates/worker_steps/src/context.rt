@@ -3,7 +3,7 @@
 //
 // Reworked from `validate_update` of `CompactionContext` in src/compactor_state.rs of slatedb
 // 0.16.0 (Apache-2.0, see NOTICE); changed: an answer where the Rust asserts.
-ghost use Rattle.std.specs.Prelude.{◌≡◌, map};
+ghost use Rattle.std.specs.Prelude.{◌≡◌, map, ◌==◌};
 ghost use Rattle.compactions.specs.Meanings.{sst_of, sub_of, context_of};
 ghost use Rattle.worker_steps.specs.Extending.{starts_with, sub_extends, subs_extend, context_extends};
 ghost use Rattle.worker_steps.specs.ExtendingLaws.{ExtendingLaws};
@@ -11,20 +11,23 @@ ghost use Rattle.worker_steps.specs.ExtendingLaws.{ExtendingLaws};
 use compactions::compactor_state::{CompactionContext, Subcompaction};
 use compactions::db_state::SsTableId;
 
-// Whether the old outputs begin the new ones.
+// By value, so that the halves of the ids are known to be numbers of 64 bits.
+fn is_same_sst(old: SsTableId, new: SsTableId) -> bool
+    ensures { result ≡ (sst_of old == sst_of new) }
+{
+    old == new
+}
+
+// Whether the old outputs begin the new ones. Not by starts_with, whose contract says nothing of the
+// elements: that equal ids are equal numbers holds of values of 64 bits alone.
 fn outputs_extend(old: &[SsTableId], new: &[SsTableId]) -> bool
     ensures { result ≡ starts_with (map sst_of old.now) (map sst_of new.now) }
 {
-    for (i, sst) in old.iter().enumerate() {
-        if i >= new.len() {
-            return false;
-        }
-        let other = new[i];
-        if !sst.0.is(other.0) {
-            return false;
-        }
-    }
-    true
+    old.len() <= new.len()
+        && old
+            .iter()
+            .zip(new)
+            .all(|(old, new)| is_same_sst(*old, *new))
 }
 
 // Whether the range is the same, and no output is lost.
