@@ -1,5 +1,9 @@
 -- When an answer agrees with the argument check.
-use Rattle.std.specs.Prelude.{Bool, true, false, cond, ◌&&◌, List, [], ◌∷◌, ℤ, pos, negsuc, is_some, Some, None, vec_items, Option, ◌==◌, nat_eq}
+use Rattle.std.specs.Prelude.{◌≡◌, Bool, true, false, cond, ◌&&◌, List, [], ◌∷◌, ℤ, pos, negsuc, is_some, Some, None, vec_items, Option, ◌==◌, nat_eq}
+use Rattle.std.specs.Fn.{Shared, FnReturns}
+use Rattle.std.specs.Option.{option_map}
+use Rattle.std.specs.Result.{result_ok}
+use denote.Ref.{Bor}
 use Rattle.compactions.specs.Meanings.{view_of}
 use Rattle.compactions.specs.Trees.{View}
 use Rattle.compactions.specs.Jobs.{Args, args_of}
@@ -8,7 +12,6 @@ use Rattle.marking.specs.declared.answer.Claim.TheVariants.{Destination, Views, 
 use Rattle.marking.specs.declared.answer.Answer.{Answer}
 use Rattle.marking.specs.declared.answer.Answer.TheVariants as answers
 use Rattle.marking.specs.declared.answer.Verdict.{Verdict}
-use Rattle.marking.specs.declared.answer.Verdict.TheVariants as verdicts
 use Rattle.marking.specs.declared.answer.Part.{Part}
 use Rattle.marking.specs.declared.answer.Part.TheVariants as parts
 use Rattle.marking.specs.declared.answer.Mark.{Mark}
@@ -16,8 +19,11 @@ use Rattle.marking.specs.declared.answer.Mark.TheVariants.{Right, WrongVerdict, 
 
 -- what the check says of an entry: the arguments, or none where it refuses
 abbrev pub verdict_args : Verdict → Option Args
-verdict_args (verdicts.Passes a) = Some (args_of a)
-verdict_args (verdicts.Refused r) = None
+verdict_args v = option_map args_of (result_ok v.0)
+
+-- whatever it answers of two items is what e says of them
+abbrev pub AnswersPairs : {F X Y : Type 0} → Shared F (Bor X × (Bor Y × Unit {0})) Bool → F → (X → Y → Bool) → Type 0
+AnswersPairs {F} {X} {Y} test f e = (x : Bor X) (y : Bor Y) (answer : Bool) → FnReturns test f (x, (y, tt)) answer → answer ≡ e x.now y.now
 
 -- two lists of one length whose items agree place by place
 abbrev pub alike : {X Y : Type 0} → (X → Y → Bool) → List X → List Y → Bool

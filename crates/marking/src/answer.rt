@@ -1,9 +1,9 @@
 // A candidate's answer to an entry, and what the argument check says of it.
-ghost use Rattle.std.specs.Prelude.{◌≡◌, map, nat_eq};
+ghost use Rattle.std.specs.Prelude.{◌≡◌, Bool, map, nat_eq};
 ghost use Rattle.argument_check.specs.Check.{job_args};
 ghost use Rattle.compactions.specs.Jobs.{args_of};
 ghost use Rattle.compactions.specs.Meanings.{view_of, run_of, entry_of, manifest_of};
-ghost use Rattle.marking.specs.Marking.{verdict_args, alike, same_view, claim_holds, part_of, first_wrong, mark_of, is_right, agrees};
+ghost use Rattle.marking.specs.Marking.{verdict_args, alike, AnswersPairs, same_view, claim_holds, part_of, first_wrong, mark_of, is_right, agrees};
 
 use argument_check::build_job_args;
 use compactions::compactor_state::Compaction;
@@ -14,10 +14,7 @@ use compactions::refusal::Refusal;
 
 // What the argument check says: the arguments that the job is started with, or the refusal.
 #[derive(Clone, Copy)]
-pub enum Verdict {
-    Passes(StartCompactionJobArgs),
-    Refused(Refusal),
-}
+pub struct Verdict(pub Result<StartCompactionJobArgs, Refusal>);
 
 // One thing that a candidate says of the arguments.
 #[derive(Drop)]
@@ -32,7 +29,7 @@ pub enum Claim {
 }
 
 // What a claim is about.
-#[derive(Clone, Copy, PartialEq)]
+#[derive(Clone, Copy, PartialEq, Eq, Debug)]
 pub enum Part {
     Destination,
     Views,
@@ -43,14 +40,16 @@ pub enum Part {
     Context,
 }
 
+// No Option of the claims: a question has an Option of an answer, and each has its word in a paper.
 #[derive(Drop)]
 pub enum Answer {
     Passes(Vec<Claim>),
     Refused,
 }
 
-// An answer is wrong by its verdict, or by the first claim that differs.
-#[derive(Clone, Copy)]
+// An answer is wrong by its verdict, or by the first claim that differs. No Result: a wrong answer
+// is no error of the marking, and each of the three has its word.
+#[derive(Clone, Copy, PartialEq, Eq, Debug)]
 pub enum Mark {
     Right,
     WrongVerdict,
@@ -61,47 +60,40 @@ impl Verdict {
     pub fn of(entry: &Compaction, manifest: &Manifest) -> Verdict
         ensures { verdict_args result ≡ job_args (entry_of entry.now) (manifest_of manifest.now) }
     {
-        match build_job_args(entry, manifest) {
-            Ok(args) => Verdict::Passes(args),
-            Err(refusal) => Verdict::Refused(refusal),
-        }
+        Verdict(build_job_args(entry, manifest))
     }
+}
+
+// Whether there are as many of both, and each is the same as the other's at its place.
+fn are_alike<X, Y, F: Fn(&X, &Y) -> bool>(xs: &[X], ys: &[Y], is_same: F) -> bool
+    requires { F.IsAlwaysCallable is_same }
+    ensures { (e : X → Y → Bool) → AnswersPairs F.Fn is_same e → result ≡ alike e xs.now ys.now }
+{
+    if xs.len() != ys.len() {
+        return false;
+    }
+    let mut pairs = xs.iter().zip(ys.iter());
+    pairs.all(|(x, y)| is_same(x, y))
 }
 
 fn is_same_view(a: SsTableView, b: SsTableView) -> bool
     ensures { result ≡ same_view (view_of a) (view_of b) }
 {
-    a.id.is(b.id) && a.sst.0.is(b.sst.0)
+    a == b
 }
 
 // Whether the same views stand in both, in the same order.
 fn are_same_views(claimed: &[SsTableView], views: &[SsTableView]) -> bool
     ensures { result ≡ alike (λ v w. same_view (view_of v) w) claimed.now (map view_of views.now) }
 {
-    if claimed.len() != views.len() {
-        return false;
-    }
-    for (i, view) in claimed.iter().enumerate() {
-        if !is_same_view(*view, views[i]) {
-            return false;
-        }
-    }
-    true
+    are_alike(claimed, views, |a, b| is_same_view(*a, *b))
 }
 
 // Whether these are the ids of the runs, in order.
 fn are_run_ids(claimed: &[u32], runs: &[SortedRun]) -> bool
     ensures { result ≡ alike (λ n r. nat_eq n r.id) claimed.now (map run_of runs.now) }
 {
-    if claimed.len() != runs.len() {
-        return false;
-    }
-    for (i, id) in claimed.iter().enumerate() {
-        if *id != runs[i].id {
-            return false;
-        }
-    }
-    true
+    are_alike(claimed, runs, |id, run| *id == run.id)
 }
 
 impl Claim {
@@ -139,23 +131,15 @@ impl Claim {
 fn first_wrong(claims: &[Claim], args: &StartCompactionJobArgs) -> Option<Part>
     ensures { result ≡ first_wrong claims.now (args_of args.now) }
 {
-    for claim in claims {
-        if !claim.holds(args) {
-            return Some(claim.part());
-        }
-    }
-    None
+    let wrong = claims.iter().find(|claim| !claim.holds(args));
+    wrong.map(|claim| claim.part())
 }
 
 impl Mark {
     fn is_right(self) -> bool
         ensures { result ≡ is_right self }
     {
-        match self {
-            Mark::Right => true,
-            Mark::WrongVerdict => false,
-            Mark::WrongPart(_) => false,
-        }
+        matches!(self, Mark::Right)
     }
 }
 
@@ -163,18 +147,13 @@ impl Answer {
     pub fn mark(&self, verdict: &Verdict) -> Mark
         ensures { result ≡ mark_of self.now (verdict_args verdict.now) }
     {
-        match self {
-            Answer::Passes(claims) => match verdict {
-                Verdict::Passes(args) => match first_wrong(claims.as_slice(), args) {
-                    Some(part) => Mark::WrongPart(part),
-                    None => Mark::Right,
-                },
-                Verdict::Refused(_) => Mark::WrongVerdict,
+        match (self, &verdict.0) {
+            (Answer::Passes(claims), Ok(args)) => match first_wrong(claims.as_slice(), args) {
+                Some(part) => Mark::WrongPart(part),
+                None => Mark::Right,
             },
-            Answer::Refused => match verdict {
-                Verdict::Passes(_) => Mark::WrongVerdict,
-                Verdict::Refused(_) => Mark::Right,
-            },
+            (Answer::Refused, Err(_)) => Mark::Right,
+            _ => Mark::WrongVerdict,
         }
     }
 

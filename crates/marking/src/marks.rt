@@ -26,10 +26,8 @@ impl Question {
     pub fn is_right(&self, manifest: &Manifest) -> Option<bool>
         ensures { result ≡ is_right_by self.now (manifest_of manifest.now) }
     {
-        match &self.answer {
-            Some(answer) => Some(answer.agrees(&Verdict::of(&self.entry, manifest))),
-            None => None,
-        }
+        let answer = self.answer.as_ref();
+        answer.map(|answer| answer.agrees(&Verdict::of(&self.entry, manifest)))
     }
 }
 

@@ -1,80 +1,17 @@
 // What is printed: the verdict on each entry with the answer beside it, and the marks.
 use crate::answer::{Answer, Claim, Mark, Part, Verdict};
 use crate::marks::Marks;
-use compactions::compactor_state::{CompactionContext, Subcompaction};
-use compactions::db_state::{SortedRun, SsTableId, SsTableView};
 use compactions::job_args::StartCompactionJobArgs;
-use compactions::manifest::Manifest;
 use std::fmt;
 
-fn write_view<W: fmt::Write>(f: &mut fmt::Formatter<W>, view: &SsTableView) -> fmt::Result {
-    let id = view.id.to_u128();
-    let sst = view.sst.0.to_u128();
-    write!(f, "{id}={sst}")
-}
-
-// Each after a space.
-fn write_views<W: fmt::Write>(f: &mut fmt::Formatter<W>, views: &[SsTableView]) -> fmt::Result {
-    for view in views {
-        f.write_str(" ")?;
-        write_view(f, view)?;
-    }
-    Ok(())
-}
-
-// The id, and the views in parentheses.
-fn write_run<W: fmt::Write>(f: &mut fmt::Formatter<W>, run: &SortedRun) -> fmt::Result {
-    let id = run.id;
-    write!(f, "{id}(")?;
-    if let [first, rest @ ..] = run.sst_views.as_slice() {
-        write_view(f, first)?;
-        write_views(f, rest)?;
-    }
-    f.write_str(")")
-}
-
-fn write_runs<W: fmt::Write>(f: &mut fmt::Formatter<W>, runs: &[SortedRun]) -> fmt::Result {
-    for run in runs {
-        f.write_str(" ")?;
-        write_run(f, run)?;
-    }
-    Ok(())
-}
-
-fn write_outputs<W: fmt::Write>(f: &mut fmt::Formatter<W>, outputs: &[SsTableId]) -> fmt::Result {
-    for output in outputs {
-        let sst = output.0.to_u128();
-        write!(f, " {sst}")?;
-    }
-    Ok(())
-}
-
-// The range, and the outputs in parentheses.
-fn write_subcompaction<W: fmt::Write>(
+// Each after the separator.
+fn write_each<W: fmt::Write, T: fmt::Display>(
     f: &mut fmt::Formatter<W>,
-    sub: &Subcompaction,
+    separator: &str,
+    items: &[T],
 ) -> fmt::Result {
-    let range = sub.range;
-    write!(f, "{range}(")?;
-    if let [first, rest @ ..] = sub.output_ssts.as_slice() {
-        let sst = first.0.to_u128();
-        write!(f, "{sst}")?;
-        write_outputs(f, rest)?;
-    }
-    f.write_str(")")
-}
-
-fn write_context<W: fmt::Write>(
-    f: &mut fmt::Formatter<W>,
-    context: &CompactionContext,
-) -> fmt::Result {
-    match context.retention_min_seq {
-        Some(retention) => write!(f, "retention {retention}, subcompactions")?,
-        None => f.write_str("retention none, subcompactions")?,
-    }
-    for sub in context.subcompactions.as_slice() {
-        f.write_str(" ")?;
-        write_subcompaction(f, sub)?;
+    for item in items {
+        write!(f, "{separator}{item}")?;
     }
     Ok(())
 }
@@ -91,12 +28,12 @@ fn write_args<W: fmt::Write>(
     f: &mut fmt::Formatter<W>,
     args: &StartCompactionJobArgs,
 ) -> fmt::Result {
-    let id = args.id.to_u128();
+    let id = args.id;
     let destination = args.destination;
     write!(f, "  id {id}\n  destination {destination}\n  views")?;
-    write_views(f, args.l0_sst_views.as_slice())?;
+    write_each(f, " ", args.l0_sst_views.as_slice())?;
     f.write_str("\n  runs")?;
-    write_runs(f, args.sorted_runs.as_slice())?;
+    write_each(f, " ", args.sorted_runs.as_slice())?;
     let tick = args.compaction_clock_tick;
     let last_run = mark_word(args.is_dest_last_run);
     let retention = args.retention_min_seq;
@@ -105,21 +42,20 @@ fn write_args<W: fmt::Write>(
         "\n  tick {tick}\n  last-run {last_run}\n  retention {retention}\n  context "
     )?;
     match &args.ctx {
-        Some(context) => write_context(f, context)?,
-        None => f.write_str("absent")?,
+        Some(context) => write!(f, "{context}\n"),
+        None => f.write_str("absent\n"),
     }
-    f.write_str("\n")
 }
 
 // The rest of the entry's line, and then the arguments, each on a line.
 impl fmt::Display for Verdict {
     fn fmt<W: fmt::Write>(&self, f: &mut fmt::Formatter<W>) -> fmt::Result {
-        match self {
-            Verdict::Passes(args) => {
+        match &self.0 {
+            Ok(args) => {
                 f.write_str("passes\n")?;
                 write_args(f, args)
             }
-            Verdict::Refused(refusal) => {
+            Err(refusal) => {
                 let number = refusal.number();
                 write!(f, "refused with {number}\n")
             }
@@ -141,21 +77,14 @@ impl fmt::Display for Part {
     }
 }
 
-fn write_ids<W: fmt::Write>(f: &mut fmt::Formatter<W>, ids: &[u32]) -> fmt::Result {
-    for id in ids {
-        write!(f, " {id}")?;
-    }
-    Ok(())
-}
-
 impl fmt::Display for Claim {
     fn fmt<W: fmt::Write>(&self, f: &mut fmt::Formatter<W>) -> fmt::Result {
         let part = self.part();
         write!(f, "{part}")?;
         match self {
             Claim::Destination(destination) => write!(f, " {destination}"),
-            Claim::Views(views) => write_views(f, views.as_slice()),
-            Claim::Runs(ids) => write_ids(f, ids.as_slice()),
+            Claim::Views(views) => write_each(f, " ", views.as_slice()),
+            Claim::Runs(ids) => write_each(f, " ", ids.as_slice()),
             Claim::Tick(tick) => write!(f, " {tick}"),
             Claim::LastRun(is_set) => {
                 let word = mark_word(*is_set);
@@ -170,19 +99,12 @@ impl fmt::Display for Claim {
     }
 }
 
-fn write_claims<W: fmt::Write>(f: &mut fmt::Formatter<W>, claims: &[Claim]) -> fmt::Result {
-    for claim in claims {
-        write!(f, ", {claim}")?;
-    }
-    Ok(())
-}
-
 impl fmt::Display for Answer {
     fn fmt<W: fmt::Write>(&self, f: &mut fmt::Formatter<W>) -> fmt::Result {
         match self {
             Answer::Passes(claims) => {
                 f.write_str("passes")?;
-                write_claims(f, claims.as_slice())
+                write_each(f, ", ", claims.as_slice())
             }
             Answer::Refused => f.write_str("refused"),
         }
