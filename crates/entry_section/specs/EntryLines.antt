@@ -1,19 +1,23 @@
 -- The lines of an entry, each as a step on what was read.
-use Rattle.std.specs.Prelude.{ℕ, Bool, true, cond, ◌||◌, List, [], length, is_some, Some, None, Ok, Err, codes, Option, Result, ◌==◌, nat_lt}
-use Rattle.std.specs.Option.{option_map}
+use Rattle.std.specs.Prelude.{ℕ, Bool, true, false, cond, ◌||◌, List, [], length, is_some, Some, None, Ok, Err, codes, Option, Result, ◌==◌, nat_lt}
+use Rattle.std.specs.Option.{option_map, unwrap_or}
 use Rattle.std.specs.Str.{bytes_eq}
 use Rattle.table.specs.Ids.{number}
 use Rattle.compactions.specs.Entries.{Source, Spec, tiered, drain, spec_sources, Status, scheduled, Owner, Sub, Context, Entry, more_sources, more_subs, more_outputs}
-use Rattle.compactions.specs.Meanings.{entry_of}
-use Rattle.compactions.specs.declared.refusal.Refusal.{Refusal}
+use Rattle.table.specs.Counted.{items_of}
+use Rattle.compactions.specs.Meanings.{status_of, entry_of}
 use Rattle.compactions.specs.declared.refusal.Refusal.TheVariants.{Count}
 use Rattle.paper_text.specs.Words.{only_word}
 use Rattle.paper_text.specs.Numbers.{id_of, segment_of, held}
 use Rattle.entry_section.specs.declared.draft.EntryDraft.{EntryDraft}
+use Rattle.entry_section.specs.declared.draft.EntryDraft.TheVariants as drafts
+use Rattle.entry_section.specs.declared.draft.Parts.{Parts}
+use Rattle.problems.specs.declared.error.Limit.{Limit}
 use Rattle.problems.specs.declared.error.Limit.TheVariants.{Sources, Outputs, Subcompactions, EntrySegment}
 use Rattle.problems.specs.declared.error.Problem.{Problem}
 use Rattle.problems.specs.declared.error.Problem.TheVariants as problems
 use Rattle.problems.specs.declared.expected.InEntry.TheVariants as expected
+use Rattle.problems.specs.Limits.{refusal_of}
 use Rattle.problems.specs.Outcomes.{then, or_else, with_word}
 use Rattle.entry_section.specs.EntryParts.{kind_in, source_in, status_in, worker_in, context_by, sub_in}
 
@@ -23,9 +27,6 @@ pub record Draft : Type 0 where
   pub entry : Option Entry
   pub has_segment : Bool
   pub has_status : Bool
-
-abbrev pub draft_of : EntryDraft → Draft
-draft_of d = record { id = number d.id; entry = option_map entry_of d.entry; has_segment = d.has_segment; has_status = d.has_status }
 
 -- an entry with another part
 abbrev pub with_spec : Entry → Spec → Entry
@@ -53,10 +54,29 @@ abbrev pub moved : List ℕ → Spec → Spec
 moved bs (tiered seg ss n) = tiered bs ss n
 moved bs (drain seg ss) = drain bs ss
 
+-- the spec in the segment that a line said, where one did
+abbrev pub moved_to : Option (List ℕ) → Spec → Spec
+moved_to None s = s
+moved_to (Some bs) s = moved bs s
+
+-- an entry with the segment and the status that lines said
+abbrev pub completed : Option (List ℕ) → Option Status → Entry → Entry
+completed seg st e = record { id = e.id; spec = moved_to seg e.spec; status = unwrap_or st e.status; outputs = e.outputs; worker = e.worker; context = e.context }
+
+abbrev pub entry_in : Parts → Entry
+entry_in p = completed (option_map items_of p.segment) (option_map status_of p.status) (entry_of p.entry)
+
+abbrev pub parts_of : Parts → Draft
+parts_of p = record { id = number p.entry.id; entry = Some (entry_in p); has_segment = is_some p.segment; has_status = is_some p.status }
+
+abbrev pub draft_of : EntryDraft → Draft
+draft_of (drafts.Named i) = record { id = number i; entry = None; has_segment = false; has_status = false }
+draft_of (drafts.Begun p) = parts_of p
+
 -- the segment that a line writes, if it has at most 16 bytes
-abbrev pub moved_by : Option (Result (List ℕ) Refusal) → Spec → Result Spec Problem
+abbrev pub moved_by : Option (Result (List ℕ) Limit) → Spec → Result Spec Problem
 moved_by None s = Err (problems.Entry expected.Segment)
-moved_by (Some (Err r)) s = Err (problems.Refused r EntrySegment)
+moved_by (Some (Err l)) s = Err (problems.Refused (refusal_of l) l)
 moved_by (Some (Ok bs)) s = Ok (moved bs s)
 
 -- once, before the sources
@@ -64,7 +84,7 @@ abbrev pub segment_line : List (List ℕ) → Draft → Entry → Result Draft P
 segment_line ws d e =
     cond d.has_segment (Err (problems.Entry expected.OneSegment))
     (cond (length (spec_sources e.spec) == 0)
-    (then (moved_by (option_map (held Count) (segment_of ws)) e.spec) (λ s.
+    (then (moved_by (option_map (held EntrySegment) (segment_of ws)) e.spec) (λ s.
     Ok (record { id = d.id; entry = Some (with_spec e s); has_segment = true; has_status = d.has_status })))
     (Err (problems.Entry expected.SegmentFirst)))
 

@@ -17,10 +17,14 @@ abbrev pub drain_in : List (List ℕ) → Result Spec Problem
 drain_in [] = Ok (drain [] [])
 drain_in (w ∷ ws) = Err (problems.Entry expected.DrainAlone)
 
+-- a merge into a destination
+abbrev pub tiered_in : List (List ℕ) → Result Spec Problem
+tiered_in ws = or_else (option_map (tiered [] []) (with_word u32_of (only_word ws))) (problems.Entry expected.Destination)
+
 -- the kind of an entry
 abbrev pub kind_in : List ℕ → List (List ℕ) → Result Spec Problem
 kind_in k ws =
-    cond (bytes_eq k (codes "tiered")) (or_else (option_map (tiered [] []) (with_word u32_of (only_word ws))) (problems.Entry expected.Destination))
+    cond (bytes_eq k (codes "tiered")) (tiered_in ws)
     (cond (bytes_eq k (codes "drain")) (drain_in ws)
     (Err (problems.Entry expected.Kind)))
 

@@ -4,65 +4,52 @@ ghost use Rattle.std.specs.Option.{option_map};
 ghost use Rattle.table.specs.Ids.{number};
 ghost use Rattle.table.specs.Counted.{items_of};
 ghost use Rattle.compactions.specs.Entries.{spec_sources};
-ghost use Rattle.compactions.specs.Meanings.{spec_of, entry_of, source_of, sst_of, context_of, sub_of};
-ghost use Rattle.compactions.specs.declared.refusal.Refusal.TheVariants.{Count};
+ghost use Rattle.compactions.specs.Meanings.{spec_of, entry_of};
 ghost use Rattle.paper_text.specs.Words.{words};
-ghost use Rattle.paper_text.specs.Numbers.{segment_of, held};
 ghost use Rattle.problems.specs.Outcomes.{read_as, then};
 ghost use Rattle.entry_section.specs.EntryParts.{kind_in};
-ghost use Rattle.entry_section.specs.EntryLines.{draft_of, kept, begun, moved, moved_by, segment_line, source_added, source_line, status_line, output_added, output_line, worker_line, context_line, sub_added, sub_line, part_line, entry_line, entry_read};
+ghost use Rattle.entry_section.specs.EntryLines.{draft_of, parts_of, entry_in, kept, begun, moved, segment_line, source_line, status_line, output_line, worker_line, context_line, sub_line, part_line, entry_line, entry_read};
 
 use crate::parts::{
     context_in, kind_in, output_in, source_in, status_in, subcompaction_in, worker_in,
 };
 use compactions::compactor_state::{
-    Compaction, CompactionContext, CompactionSpec, CompactionStatus, DrainSegmentSpec, SourceId,
-    Subcompaction, TieredCompactionSpec,
+    Compaction, CompactionSpec, CompactionStatus, DrainSegmentSpec, TieredCompactionSpec,
 };
-use compactions::db_state::SsTableId;
-use compactions::refusal::Refusal;
-use compactions::rows::Rows;
 use paper_text::segments::segment_in;
-use paper_text::words::is;
+use paper_text::words::{Line, Words};
 use problems::error::{Limit, Problem};
 use problems::expected::InEntry;
+use problems::once::once;
+use table::rows::Rows;
 use table::ulid::Ulid;
 
-// An entry as far as it was read; none before the line that says its kind.
+// An entry as far as it was read: its id alone, until a line says its kind.
 #[derive(Clone, Copy)]
-pub struct EntryDraft {
-    id: Ulid,
-    entry: Option<Compaction>,
-    has_segment: bool,
-    has_status: bool,
+pub enum EntryDraft {
+    Named(Ulid),
+    Begun(Parts),
+}
+
+// An entry whose kind is said, and the segment and the status that lines say, which are stored in
+// it at the end.
+#[derive(Clone, Copy)]
+pub struct Parts {
+    entry: Compaction,
+    segment: Option<Rows<u8, 16>>,
+    status: Option<CompactionStatus>,
 }
 
 fn moved(spec: CompactionSpec, segment: Rows<u8, 16>) -> CompactionSpec
     ensures { spec_of result ≡ moved (items_of segment) (spec_of spec) }
 {
     match spec {
-        CompactionSpec::Tiered(spec) => CompactionSpec::Tiered(TieredCompactionSpec {
-            segment,
-            sources: spec.sources,
-            destination: spec.destination,
-        }),
-        CompactionSpec::DrainSegment(spec) => CompactionSpec::DrainSegment(DrainSegmentSpec {
-            segment,
-            sources: spec.sources,
-        }),
-    }
-}
-
-// The spec in the segment that a line writes.
-fn move_by(spec: CompactionSpec, rest: &[u8]) -> Result<CompactionSpec, Problem>
-    ensures { read_as spec_of result ≡ moved_by (option_map (held Count) (segment_of (words rest.now))) (spec_of spec) }
-{
-    let Some(read) = segment_in(rest, Refusal::Count) else {
-        return Err(Problem::Entry(InEntry::Segment));
-    };
-    match read {
-        Ok(segment) => Ok(moved(spec, segment)),
-        Err(refusal) => Err(Problem::Refused(refusal, Limit::EntrySegment)),
+        CompactionSpec::Tiered(spec) => {
+            CompactionSpec::Tiered(TieredCompactionSpec { segment, ..spec })
+        }
+        CompactionSpec::DrainSegment(spec) => {
+            CompactionSpec::DrainSegment(DrainSegmentSpec { segment, ..spec })
+        }
     }
 }
 
@@ -72,228 +59,20 @@ fn has_no_source(spec: &CompactionSpec) -> bool
     spec.sources().is_empty()
 }
 
-fn add_source(entry: Compaction, source: SourceId) -> Result<Compaction, Problem>
-    ensures { read_as entry_of result ≡ source_added (entry_of entry) (source_of source) }
-{
-    let mut entry = entry;
-    match entry.spec.add_source(source) {
-        Ok(()) => Ok(entry),
-        Err(_) => Err(Problem::Refused(Refusal::Count, Limit::Sources)),
-    }
-}
-
-fn read_source(entry: Compaction, rest: &[u8]) -> Result<Compaction, Problem>
-    ensures { read_as entry_of result ≡ source_line (words rest.now) (entry_of entry) }
-{
-    match source_in(rest) {
-        Some(source) => add_source(entry, source),
-        None => Err(Problem::Entry(InEntry::Source)),
-    }
-}
-
-fn add_output(entry: Compaction, output: SsTableId) -> Result<Compaction, Problem>
-    ensures { read_as entry_of result ≡ output_added (entry_of entry) (sst_of output) }
-{
-    let mut entry = entry;
-    match entry.add_output(output) {
-        Ok(()) => Ok(entry),
-        Err(_) => Err(Problem::Refused(Refusal::Count, Limit::Outputs)),
-    }
-}
-
-fn read_output(entry: Compaction, rest: &[u8]) -> Result<Compaction, Problem>
-    ensures { read_as entry_of result ≡ output_line (words rest.now) (entry_of entry) }
-{
-    match output_in(rest) {
-        Some(output) => add_output(entry, output),
-        None => Err(Problem::Entry(InEntry::Output)),
-    }
-}
-
-fn read_worker(entry: Compaction, rest: &[u8]) -> Result<Compaction, Problem>
-    ensures { read_as entry_of result ≡ worker_line (words rest.now) (entry_of entry) }
-{
-    if entry.worker.is_some() {
-        return Err(Problem::Entry(InEntry::OneWorker));
-    }
-    match worker_in(rest) {
-        Some(worker) => {
-            let mut entry = entry;
-            entry.worker = Some(worker);
-            Ok(entry)
-        }
-        None => Err(Problem::Entry(InEntry::Worker)),
-    }
-}
-
-fn read_context(entry: Compaction, rest: &[u8]) -> Result<Compaction, Problem>
-    ensures { read_as entry_of result ≡ context_line (words rest.now) (entry_of entry) }
-{
-    if entry.ctx.is_some() {
-        return Err(Problem::Entry(InEntry::OneContext));
-    }
-    match context_in(rest) {
-        Some(context) => {
-            let mut entry = entry;
-            entry.ctx = Some(context);
-            Ok(entry)
-        }
-        None => Err(Problem::Entry(InEntry::Context)),
-    }
-}
-
-fn add_subcompaction(
-    entry: Compaction,
-    context: CompactionContext,
-    sub: Subcompaction,
-) -> Result<Compaction, Problem>
-    ensures { read_as entry_of result ≡ sub_added (entry_of entry) (context_of context) (sub_of sub) }
-{
-    let mut entry = entry;
-    let mut context = context;
-    match context.add_subcompaction(sub) {
-        Ok(()) => {
-            entry.ctx = Some(context);
-            Ok(entry)
-        }
-        Err(_) => Err(Problem::Refused(Refusal::Count, Limit::Subcompactions)),
-    }
-}
-
-fn read_subcompaction(entry: Compaction, rest: &[u8]) -> Result<Compaction, Problem>
-    ensures { read_as entry_of result ≡ sub_line (words rest.now) (entry_of entry) }
-{
-    let Some(context) = entry.ctx else {
-        return Err(Problem::Entry(InEntry::ContextFirst));
-    };
-    match subcompaction_in(rest) {
-        Ok(sub) => add_subcompaction(entry, context, sub),
-        Err(problem) => Err(problem),
-    }
-}
-
 impl EntryDraft {
     pub fn new(id: Ulid) -> EntryDraft
         ensures { draft_of result ≡ record { id = number id; entry = None; has_segment = false; has_status = false } }
     {
-        EntryDraft {
-            id,
-            entry: None,
-            has_segment: false,
-            has_status: false,
-        }
+        EntryDraft::Named(id)
     }
 
     // What a line makes of it; none where the keyword is none of an entry's.
-    pub fn read(self, keyword: &[u8], rest: &[u8]) -> Option<Result<EntryDraft, Problem>>
-        ensures { option_map (read_as draft_of) result ≡ entry_line keyword.now (words rest.now) (draft_of self) }
+    pub fn read(self, line: Line<'_>) -> Option<Result<EntryDraft, Problem>>
+        ensures { option_map (read_as draft_of) result ≡ entry_line line.entry.keyword.now (words line.entry.rest.now) (draft_of self) }
     {
-        match self.entry {
-            Some(entry) => self.next_part(entry, keyword, rest),
-            None => Some(self.begin(keyword, rest)),
-        }
-    }
-
-    // The line that says the kind.
-    fn begin(self, keyword: &[u8], rest: &[u8]) -> Result<EntryDraft, Problem>
-        ensures { read_as draft_of result ≡ then (kind_in keyword.now (words rest.now)) (λ s. Ok (begun (draft_of self) s)) }
-    {
-        match kind_in(keyword, rest) {
-            Ok(spec) => {
-                let mut entry = Compaction::new(self.id, spec);
-                entry.status = CompactionStatus::Scheduled;
-                self.keep(Ok(entry))
-            }
-            Err(problem) => Err(problem),
-        }
-    }
-
-    fn next_part(
-        self,
-        entry: Compaction,
-        keyword: &[u8],
-        rest: &[u8],
-    ) -> Option<Result<EntryDraft, Problem>>
-        ensures { option_map (read_as draft_of) result ≡ part_line keyword.now (words rest.now) (draft_of self) (entry_of entry) }
-    {
-        if is(keyword, b"tiered") || is(keyword, b"drain") {
-            Some(Err(Problem::Entry(InEntry::OneKind)))
-        } else if is(keyword, b"segment") {
-            Some(self.read_segment(entry, rest))
-        } else if is(keyword, b"source") {
-            Some(self.keep(read_source(entry, rest)))
-        } else if is(keyword, b"status") {
-            Some(self.read_status(entry, rest))
-        } else if is(keyword, b"output") {
-            Some(self.keep(read_output(entry, rest)))
-        } else if is(keyword, b"worker") {
-            Some(self.keep(read_worker(entry, rest)))
-        } else if is(keyword, b"context") {
-            Some(self.keep(read_context(entry, rest)))
-        } else if is(keyword, b"subcompaction") {
-            Some(self.keep(read_subcompaction(entry, rest)))
-        } else {
-            None
-        }
-    }
-
-    // A line that changes the entry alone.
-    fn keep(self, read: Result<Compaction, Problem>) -> Result<EntryDraft, Problem>
-        ensures { read_as draft_of result ≡ then (read_as entry_of read) (λ e. Ok (kept (draft_of self) e)) }
-    {
-        match read {
-            Ok(entry) => Ok(EntryDraft {
-                id: self.id,
-                entry: Some(entry),
-                has_segment: self.has_segment,
-                has_status: self.has_status,
-            }),
-            Err(problem) => Err(problem),
-        }
-    }
-
-    fn read_segment(self, entry: Compaction, rest: &[u8]) -> Result<EntryDraft, Problem>
-        ensures { read_as draft_of result ≡ segment_line (words rest.now) (draft_of self) (entry_of entry) }
-    {
-        if self.has_segment {
-            return Err(Problem::Entry(InEntry::OneSegment));
-        }
-        if !has_no_source(&entry.spec) {
-            return Err(Problem::Entry(InEntry::SegmentFirst));
-        }
-        match move_by(entry.spec, rest) {
-            Ok(spec) => {
-                let mut entry = entry;
-                entry.spec = spec;
-                Ok(EntryDraft {
-                    id: self.id,
-                    entry: Some(entry),
-                    has_segment: true,
-                    has_status: self.has_status,
-                })
-            }
-            Err(problem) => Err(problem),
-        }
-    }
-
-    fn read_status(self, entry: Compaction, rest: &[u8]) -> Result<EntryDraft, Problem>
-        ensures { read_as draft_of result ≡ status_line (words rest.now) (draft_of self) (entry_of entry) }
-    {
-        if self.has_status {
-            return Err(Problem::Entry(InEntry::OneStatus));
-        }
-        match status_in(rest) {
-            Some(status) => {
-                let mut entry = entry;
-                entry.status = status;
-                Ok(EntryDraft {
-                    id: self.id,
-                    entry: Some(entry),
-                    has_segment: self.has_segment,
-                    has_status: true,
-                })
-            }
-            None => Err(Problem::Entry(InEntry::Status)),
+        match self {
+            EntryDraft::Named(id) => Some(Parts::begin(id, line).map(EntryDraft::Begun)),
+            EntryDraft::Begun(parts) => Some(parts.read(line)?.map(EntryDraft::Begun)),
         }
     }
 
@@ -301,9 +80,126 @@ impl EntryDraft {
     pub fn finish(self) -> Result<Compaction, Problem>
         ensures { read_as entry_of result ≡ entry_read (draft_of self) }
     {
-        match self.entry {
-            Some(entry) => Ok(entry),
-            None => Err(Problem::Entry(InEntry::Kind)),
+        match self {
+            EntryDraft::Named(_) => Err(InEntry::Kind.into()),
+            EntryDraft::Begun(parts) => Ok(parts.finish()),
         }
+    }
+}
+
+impl Parts {
+    // The line that says the kind.
+    fn begin(id: Ulid, line: Line<'_>) -> Result<Parts, Problem>
+        ensures { read_as parts_of result ≡ then (kind_in line.entry.keyword.now (words line.entry.rest.now)) (λ s. Ok (begun (record { id = number id; entry = None; has_segment = false; has_status = false }) s)) }
+    {
+        let mut entry = Compaction::new(id, kind_in(line)?);
+        entry.status = CompactionStatus::Scheduled;
+        Ok(Parts {
+            entry,
+            segment: None,
+            status: None,
+        })
+    }
+
+    // A line below that one.
+    fn read(self, line: Line<'_>) -> Option<Result<Parts, Problem>>
+        ensures { option_map (read_as parts_of) result ≡ part_line line.entry.keyword.now (words line.entry.rest.now) (parts_of self) (entry_in self) }
+    {
+        let words = line.words();
+        match line.keyword {
+            b"tiered" | b"drain" => Some(Err(InEntry::OneKind.into())),
+            b"segment" => Some(self.read_segment(words)),
+            b"source" => Some(self.read_source(words)),
+            b"status" => Some(self.read_status(words)),
+            b"output" => Some(self.read_output(words)),
+            b"worker" => Some(self.read_worker(words)),
+            b"context" => Some(self.read_context(words)),
+            b"subcompaction" => Some(self.read_subcompaction(words)),
+            _ => None,
+        }
+    }
+
+    fn read_segment(mut self, words: Words<'_>) -> Result<Parts, Problem>
+        ensures { read_as parts_of result ≡ segment_line words.entry (parts_of self) (entry_in self) }
+    {
+        if self.segment.is_some() {
+            return Err(InEntry::OneSegment.into());
+        }
+        if !has_no_source(&self.entry.spec) {
+            return Err(InEntry::SegmentFirst.into());
+        }
+        let segment = segment_in(words, Limit::EntrySegment).ok_or(InEntry::Segment)??;
+        self.segment = Some(segment);
+        Ok(self)
+    }
+
+    fn read_source(mut self, words: Words<'_>) -> Result<Parts, Problem>
+        ensures { read_as parts_of result ≡ then (source_line words.entry (entry_in self)) (λ e. Ok (kept (parts_of self) e)) }
+    {
+        let source = source_in(words).ok_or(InEntry::Source)?;
+        self.entry
+            .spec
+            .add_source(source)
+            .map_err(|_| Limit::Sources)?;
+        Ok(self)
+    }
+
+    fn read_status(mut self, words: Words<'_>) -> Result<Parts, Problem>
+        ensures { read_as parts_of result ≡ status_line words.entry (parts_of self) (entry_in self) }
+    {
+        let read = words.only().and_then(status_in);
+        let status = once(self.status, read, InEntry::OneStatus, InEntry::Status)?;
+        self.status = Some(status);
+        Ok(self)
+    }
+
+    fn read_output(mut self, words: Words<'_>) -> Result<Parts, Problem>
+        ensures { read_as parts_of result ≡ then (output_line words.entry (entry_in self)) (λ e. Ok (kept (parts_of self) e)) }
+    {
+        let output = words.only().and_then(output_in).ok_or(InEntry::Output)?;
+        self.entry.add_output(output).map_err(|_| Limit::Outputs)?;
+        Ok(self)
+    }
+
+    fn read_worker(mut self, words: Words<'_>) -> Result<Parts, Problem>
+        ensures { read_as parts_of result ≡ then (worker_line words.entry (entry_in self)) (λ e. Ok (kept (parts_of self) e)) }
+    {
+        let read = worker_in(words);
+        let worker = once(self.entry.worker, read, InEntry::OneWorker, InEntry::Worker)?;
+        self.entry.worker = Some(worker);
+        Ok(self)
+    }
+
+    fn read_context(mut self, words: Words<'_>) -> Result<Parts, Problem>
+        ensures { read_as parts_of result ≡ then (context_line words.entry (entry_in self)) (λ e. Ok (kept (parts_of self) e)) }
+    {
+        let read = words.only().and_then(context_in);
+        let context = once(self.entry.ctx, read, InEntry::OneContext, InEntry::Context)?;
+        self.entry.ctx = Some(context);
+        Ok(self)
+    }
+
+    fn read_subcompaction(mut self, words: Words<'_>) -> Result<Parts, Problem>
+        ensures { read_as parts_of result ≡ then (sub_line words.entry (entry_in self)) (λ e. Ok (kept (parts_of self) e)) }
+    {
+        let mut context = self.entry.ctx.ok_or(InEntry::ContextFirst)?;
+        let sub = subcompaction_in(words)?;
+        context
+            .add_subcompaction(sub)
+            .map_err(|_| Limit::Subcompactions)?;
+        self.entry.ctx = Some(context);
+        Ok(self)
+    }
+
+    // The entry with its segment and its status.
+    fn finish(self) -> Compaction
+        ensures { entry_of result ≡ entry_in self }
+    {
+        let mut entry = self.entry;
+        if let Some(segment) = self.segment {
+            entry.spec = moved(entry.spec, segment);
+        }
+        entry.status = self.status.unwrap_or(entry.status);
+        entry
     }
 }

@@ -1,20 +1,21 @@
 -- The lines of a manifest, each as a step on what was read.
-use Rattle.std.specs.Prelude.{ℕ, Bool, true, false, cond, ◌&&◌, List, [], ◌∷◌, map, length, ℤ, pos, Some, None, Ok, Err, codes, Option, Result, nat_le, nat_lt}
-use Rattle.std.specs.Option.{option_map}
+use Rattle.std.specs.Prelude.{ℕ, Bool, true, false, cond, ◌&&◌, List, [], ◌∷◌, map, length, ℤ, pos, is_some, Some, None, Ok, Err, codes, Option, Result, nat_le, nat_lt}
+use Rattle.std.specs.Option.{option_map, unwrap_or}
 use Rattle.std.specs.Str.{bytes_eq}
 use Rattle.table.specs.Counted.{items_of}
 use Rattle.compactions.specs.Meanings.{tree_of, manifest_of}
 use Rattle.compactions.specs.Prefixes.{before, latest}
 use Rattle.compactions.specs.Trees.{View, Run, Tree, Manifest, more_views, more_tree_views, more_tree_runs, more_segments}
-use Rattle.compactions.specs.declared.refusal.Refusal.{Refusal}
 use Rattle.compactions.specs.declared.refusal.Refusal.TheVariants as refusals
 use Rattle.paper_text.specs.Words.{only_word}
 use Rattle.paper_text.specs.Numbers.{u32_of, u64_of, signed_of, view_in, segment_of, held}
 use Rattle.manifest_section.specs.declared.draft.ManifestDraft.{ManifestDraft}
+use Rattle.problems.specs.declared.error.Limit.{Limit}
 use Rattle.problems.specs.declared.error.Limit.TheVariants.{RunViews, TreeViews, TreeRuns, PrefixLength, Segments, PrefixOrder}
 use Rattle.problems.specs.declared.error.Problem.{Problem}
 use Rattle.problems.specs.declared.error.Problem.TheVariants as problems
 use Rattle.problems.specs.declared.expected.InManifest.TheVariants as expected
+use Rattle.problems.specs.Limits.{refusal_of}
 use Rattle.problems.specs.Outcomes.{then, or_else, with_word}
 
 -- a manifest as far as it was read: the trees that are complete, the tree at hand, which is the
@@ -26,8 +27,12 @@ pub record Begun : Type 0 where
   pub has_tick : Bool
   pub has_snapshot : Bool
 
+-- a manifest with the numbers that were given, and 0 for one that was not
+abbrev pub numbered : Manifest → Option ℤ → Option ℕ → Manifest
+numbered m t n = record { root = m.root; segments = m.segments; tick = unwrap_or t (pos 0); snapshot = unwrap_or n 0 }
+
 abbrev pub begun_of : ManifestDraft → Begun
-begun_of d = record { done = manifest_of d.manifest; tree = tree_of d.tree; prefix = option_map items_of d.prefix; has_tick = d.has_tick; has_snapshot = d.has_snapshot }
+begun_of d = record { done = numbered (manifest_of d.manifest) d.tick d.snapshot; tree = tree_of d.tree; prefix = option_map items_of d.prefix; has_tick = is_some d.tick; has_snapshot = is_some d.snapshot }
 
 -- a tree without views and runs
 abbrev pub bare : Tree
@@ -113,13 +118,13 @@ abbrev pub segment_tried : Begun → List ℕ → Result Begun Problem
 segment_tried d p = then (manifest_read d) (λ m. then (segment_added m p bare) (λ tried. Ok (segment_begun d p m)))
 
 -- the prefix that a line writes, if it has at most 16 bytes
-abbrev pub prefix_by : Option (Result (List ℕ) Refusal) → Result (List ℕ) Problem
+abbrev pub prefix_by : Option (Result (List ℕ) Limit) → Result (List ℕ) Problem
 prefix_by None = Err (problems.Manifest expected.Segment)
-prefix_by (Some (Err r)) = Err (problems.Refused r PrefixLength)
+prefix_by (Some (Err l)) = Err (problems.Refused (refusal_of l) l)
 prefix_by (Some (Ok bs)) = Ok bs
 
 abbrev pub segment_line : List (List ℕ) → Begun → Result Begun Problem
-segment_line ws d = then (prefix_by (option_map (held refusals.ManifestCount) (segment_of ws))) (segment_tried d)
+segment_line ws d = then (prefix_by (option_map (held PrefixLength) (segment_of ws))) (segment_tried d)
 
 -- a line of a manifest, by its keyword; none where it is not of a manifest
 abbrev pub manifest_line : List ℕ → List (List ℕ) → Begun → Option (Result Begun Problem)

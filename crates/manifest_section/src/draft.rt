@@ -7,22 +7,24 @@ ghost use Rattle.paper_text.specs.Words.{words};
 ghost use Rattle.problems.specs.Outcomes.{read_as, then};
 ghost use Rattle.manifest_section.specs.ManifestLines.{begun_of, nothing_read, with_tree, tick_line, snapshot_line, manifest_read, segment_tried, segment_line, manifest_line};
 
-use crate::parts::{add_segment, prefix_in, read_run, read_view, snapshot_in, tick_in};
+use crate::parts::{add_segment, prefix_in, read_run, read_view};
 use compactions::manifest::{LsmTreeState, Manifest};
 use compactions::rows::Rows;
-use paper_text::words::is;
+use paper_text::numbers::{i64_in, u64_in};
+use paper_text::words::{Line, Words};
 use problems::error::Problem;
 use problems::expected::InManifest;
+use problems::once::once;
 
 // A manifest as far as it was read. The tree at hand is the root's, or that of the segment with the
-// prefix; it is stored when it is complete.
+// prefix; it is stored when it is complete. The numbers are stored at the end.
 #[derive(Clone, Copy)]
 pub struct ManifestDraft {
     manifest: Manifest,
     tree: LsmTreeState,
     prefix: Option<Rows<u8, 16>>,
-    has_tick: bool,
-    has_snapshot: bool,
+    tick: Option<i64>,
+    snapshot: Option<u64>,
 }
 
 impl ManifestDraft {
@@ -33,27 +35,22 @@ impl ManifestDraft {
             manifest: Manifest::new(LsmTreeState::new(), 0, 0),
             tree: LsmTreeState::new(),
             prefix: None,
-            has_tick: false,
-            has_snapshot: false,
+            tick: None,
+            snapshot: None,
         }
     }
 
     // What a line makes of it; none where the keyword is none of a manifest's.
-    pub fn read(self, keyword: &[u8], rest: &[u8]) -> Option<Result<ManifestDraft, Problem>>
-        ensures { option_map (read_as begun_of) result ≡ manifest_line keyword.now (words rest.now) (begun_of self) }
+    pub fn read(self, line: Line<'_>) -> Option<Result<ManifestDraft, Problem>>
+        ensures { option_map (read_as begun_of) result ≡ manifest_line line.entry.keyword.now (words line.entry.rest.now) (begun_of self) }
     {
-        if is(keyword, b"tick") {
-            Some(self.read_tick(rest))
-        } else if is(keyword, b"snapshot") {
-            Some(self.read_snapshot(rest))
-        } else if is(keyword, b"view") {
-            Some(self.keep(read_view(self.tree, rest)))
-        } else if is(keyword, b"run") {
-            Some(self.keep(read_run(self.tree, rest)))
-        } else if is(keyword, b"segment") {
-            Some(self.read_segment(rest))
-        } else {
-            None
+        match line.keyword {
+            b"tick" => Some(self.read_tick(line.words())),
+            b"snapshot" => Some(self.read_snapshot(line.words())),
+            b"view" => Some(self.keep(read_view(self.tree, line.words()))),
+            b"run" => Some(self.keep(read_run(self.tree, line.words()))),
+            b"segment" => Some(self.read_segment(line.words())),
+            _ => None,
         }
     }
 
@@ -61,57 +58,41 @@ impl ManifestDraft {
     fn keep(self, read: Result<LsmTreeState, Problem>) -> Result<ManifestDraft, Problem>
         ensures { read_as begun_of result ≡ then (read_as tree_of read) (λ t. Ok (with_tree (begun_of self) t)) }
     {
-        match read {
-            Ok(tree) => {
-                let mut next = self;
-                next.tree = tree;
-                Ok(next)
-            }
-            Err(problem) => Err(problem),
-        }
+        let tree = read?;
+        Ok(ManifestDraft { tree, ..self })
     }
 
-    fn read_tick(self, rest: &[u8]) -> Result<ManifestDraft, Problem>
-        ensures { read_as begun_of result ≡ tick_line (words rest.now) (begun_of self) }
+    fn read_tick(self, words: Words<'_>) -> Result<ManifestDraft, Problem>
+        ensures { read_as begun_of result ≡ tick_line words.entry (begun_of self) }
     {
-        if self.has_tick {
-            return Err(Problem::Manifest(InManifest::OneTick));
-        }
-        match tick_in(rest) {
-            Some(tick) => {
-                let mut next = self;
-                next.manifest.last_l0_clock_tick = tick;
-                next.has_tick = true;
-                Ok(next)
-            }
-            None => Err(Problem::Manifest(InManifest::Tick)),
-        }
+        let read = words.only().and_then(i64_in);
+        let tick = once(self.tick, read, InManifest::OneTick, InManifest::Tick)?;
+        Ok(ManifestDraft {
+            tick: Some(tick),
+            ..self
+        })
     }
 
-    fn read_snapshot(self, rest: &[u8]) -> Result<ManifestDraft, Problem>
-        ensures { read_as begun_of result ≡ snapshot_line (words rest.now) (begun_of self) }
+    fn read_snapshot(self, words: Words<'_>) -> Result<ManifestDraft, Problem>
+        ensures { read_as begun_of result ≡ snapshot_line words.entry (begun_of self) }
     {
-        if self.has_snapshot {
-            return Err(Problem::Manifest(InManifest::OneSnapshot));
-        }
-        match snapshot_in(rest) {
-            Some(snapshot) => {
-                let mut next = self;
-                next.manifest.recent_snapshot_min_seq = snapshot;
-                next.has_snapshot = true;
-                Ok(next)
-            }
-            None => Err(Problem::Manifest(InManifest::Snapshot)),
-        }
+        let read = words.only().and_then(u64_in);
+        let snapshot = once(
+            self.snapshot,
+            read,
+            InManifest::OneSnapshot,
+            InManifest::Snapshot,
+        )?;
+        Ok(ManifestDraft {
+            snapshot: Some(snapshot),
+            ..self
+        })
     }
 
-    fn read_segment(self, rest: &[u8]) -> Result<ManifestDraft, Problem>
-        ensures { read_as begun_of result ≡ segment_line (words rest.now) (begun_of self) }
+    fn read_segment(self, words: Words<'_>) -> Result<ManifestDraft, Problem>
+        ensures { read_as begun_of result ≡ segment_line words.entry (begun_of self) }
     {
-        match prefix_in(rest) {
-            Ok(prefix) => self.begin_segment(prefix),
-            Err(problem) => Err(problem),
-        }
+        self.begin_segment(prefix_in(words)?)
     }
 
     // Stores the tree at hand and begins that of a segment, whose prefix is tried here.
@@ -124,8 +105,7 @@ impl ManifestDraft {
             manifest,
             tree: LsmTreeState::new(),
             prefix: Some(prefix),
-            has_tick: self.has_tick,
-            has_snapshot: self.has_snapshot,
+            ..self
         })
     }
 
@@ -133,10 +113,12 @@ impl ManifestDraft {
     pub fn finish(self) -> Result<Manifest, Problem>
         ensures { read_as manifest_of result ≡ manifest_read (begun_of self) }
     {
+        let mut manifest = self.manifest;
+        manifest.last_l0_clock_tick = self.tick.unwrap_or(0);
+        manifest.recent_snapshot_min_seq = self.snapshot.unwrap_or(0);
         match self.prefix {
-            Some(prefix) => add_segment(self.manifest, prefix, self.tree),
+            Some(prefix) => add_segment(manifest, prefix, self.tree),
             None => {
-                let mut manifest = self.manifest;
                 manifest.tree = self.tree;
                 Ok(manifest)
             }

@@ -1,1 +1,2 @@
 mod KeyScans
+mod LineCounts

@@ -3,6 +3,8 @@ use Rattle.std.specs.Prelude.{ℕ, Bool, true, false, cond, List, [], ◌∷◌,
 use Rattle.std.specs.Option.{option_map}
 use Rattle.std.specs.Str.{bytes_eq}
 use Rattle.compactions.specs.Trees.{View}
+use Rattle.marking.specs.declared.answer.Part.{Part}
+use Rattle.marking.specs.declared.answer.Part.TheVariants as parts
 use Rattle.paper_text.specs.Words.{only_word}
 use Rattle.paper_text.specs.Numbers.{u32_of, u64_of, signed_of, view_in}
 use Rattle.problems.specs.declared.error.Problem.{Problem}
@@ -26,23 +28,31 @@ abbrev pub runs_in : List (List ℕ) → List ℕ → Result (List ℕ) Problem
 runs_in [] ns = Ok ns
 runs_in (w ∷ ws) ns = then (or_else (u32_of w) (problems.Answer expected.Run)) (λ n. runs_in ws (ns ++ (n ∷ [])))
 
--- a part of the arguments that is one word
-abbrev pub small_part : List ℕ → Option (List ℕ) → Result Said Problem
-small_part k w =
-    cond (bytes_eq k (codes "destination")) (or_else (option_map destination (with_word u32_of w)) (problems.Answer expected.Destination))
-    (cond (bytes_eq k (codes "tick")) (or_else (option_map tick (with_word signed_of w)) (problems.Answer expected.Tick))
-    (cond (bytes_eq k (codes "last-run")) (or_else (option_map last_run (with_word (choice (codes "set") (codes "unset")) w)) (problems.Answer expected.LastRun))
-    (cond (bytes_eq k (codes "retention")) (or_else (option_map retention (with_word u64_of w)) (problems.Answer expected.Retention))
-    (cond (bytes_eq k (codes "context")) (or_else (option_map context (with_word (choice (codes "present") (codes "absent")) w)) (problems.Answer expected.Context))
-    (Err (problems.Answer expected.Part))))))
+-- the part of the arguments that a word names
+abbrev pub part_named : List ℕ → Option Part
+part_named w =
+    cond (bytes_eq w (codes "destination")) (Some parts.Destination)
+    (cond (bytes_eq w (codes "views")) (Some parts.Views)
+    (cond (bytes_eq w (codes "runs")) (Some parts.Runs)
+    (cond (bytes_eq w (codes "tick")) (Some parts.Tick)
+    (cond (bytes_eq w (codes "last-run")) (Some parts.LastRun)
+    (cond (bytes_eq w (codes "retention")) (Some parts.Retention)
+    (cond (bytes_eq w (codes "context")) (Some parts.Context) None))))))
+
+-- what the words behind it say of a part
+abbrev pub part_by : List (List ℕ) → Part → Result Said Problem
+part_by ws parts.Destination = or_else (option_map destination (with_word u32_of (only_word ws))) (problems.Answer expected.Destination)
+part_by ws parts.Views = then (views_in ws []) (λ vs. Ok (views vs))
+part_by ws parts.Runs = then (runs_in ws []) (λ ns. Ok (runs ns))
+part_by ws parts.Tick = or_else (option_map tick (with_word signed_of (only_word ws))) (problems.Answer expected.Tick)
+part_by ws parts.LastRun = or_else (option_map last_run (with_word (choice (codes "set") (codes "unset")) (only_word ws))) (problems.Answer expected.LastRun)
+part_by ws parts.Retention = or_else (option_map retention (with_word u64_of (only_word ws))) (problems.Answer expected.Retention)
+part_by ws parts.Context = or_else (option_map context (with_word (choice (codes "present") (codes "absent")) (only_word ws))) (problems.Answer expected.Context)
 
 -- a part of the arguments
 abbrev pub part_in : List (List ℕ) → Result Said Problem
 part_in [] = Err (problems.Answer expected.Part)
-part_in (k ∷ ws) =
-    cond (bytes_eq k (codes "views")) (then (views_in ws []) (λ vs. Ok (views vs)))
-    (cond (bytes_eq k (codes "runs")) (then (runs_in ws []) (λ ns. Ok (runs ns)))
-    (small_part k (only_word ws)))
+part_in (k ∷ ws) = then (or_else (part_named k) (problems.Answer expected.Part)) (part_by ws)
 
 -- whether one of these is of that kind
 abbrev pub has_kind : ℕ → List Said → Bool

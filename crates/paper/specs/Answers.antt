@@ -4,6 +4,8 @@ use Rattle.compactions.specs.Meanings.{view_of}
 use Rattle.compactions.specs.Trees.{View}
 use Rattle.marking.specs.declared.answer.Claim.{Claim}
 use Rattle.marking.specs.declared.answer.Claim.TheVariants as claims
+use Rattle.marking.specs.declared.answer.Part.{Part}
+use Rattle.marking.specs.declared.answer.Part.TheVariants as parts
 use Rattle.marking.specs.declared.answer.Answer.{Answer}
 use Rattle.marking.specs.declared.answer.Answer.TheVariants as answers
 
@@ -44,3 +46,13 @@ kind (tick t) = 3
 kind (last_run b) = 4
 kind (retention n) = 5
 kind (context b) = 6
+
+-- the place of a part among the kinds
+abbrev pub place : Part → ℕ
+place parts.Destination = 0
+place parts.Views = 1
+place parts.Runs = 2
+place parts.Tick = 3
+place parts.LastRun = 4
+place parts.Retention = 5
+place parts.Context = 6

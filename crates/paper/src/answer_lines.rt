@@ -2,18 +2,16 @@
 ghost use Rattle.std.specs.Prelude.{◌≡◌, true, [], map, vec_items, codes};
 ghost use Rattle.std.specs.Option.{option_map};
 ghost use Rattle.compactions.specs.Meanings.{view_of};
-ghost use Rattle.paper_text.specs.Words.{words, only_word};
-ghost use Rattle.paper_text.specs.Numbers.{u32_of, u64_of, signed_of};
 ghost use Rattle.problems.specs.Lines.{sufficed};
-ghost use Rattle.problems.specs.Outcomes.{read_as, or_else, with_word};
+ghost use Rattle.problems.specs.Outcomes.{read_as, or_else};
 ghost use Rattle.problems.specs.declared.error.Problem.TheVariants as problems;
-ghost use Rattle.paper.specs.Answers.{destination, tick, last_run, retention, context, said_of, answer_of, kind};
-ghost use Rattle.paper.specs.AnswerLines.{choice, views_in, runs_in, small_part, part_in, has_kind, part_added, answer_line, with_line};
+ghost use Rattle.paper.specs.Answers.{said_of, answer_of, kind, place};
+ghost use Rattle.paper.specs.AnswerLines.{choice, views_in, runs_in, part_named, part_by, part_in, has_kind, part_added, answer_line, with_line};
 
 use compactions::db_state::SsTableView;
-use marking::answer::{Answer, Claim};
+use marking::answer::{Answer, Claim, Part};
 use paper_text::numbers::{i64_in, u32_in, u64_in, view_in};
-use paper_text::words::{first_word, is, only};
+use paper_text::words::Words;
 use problems::error::Problem;
 use problems::expected::InAnswer;
 use std::alloc::Global;
@@ -22,17 +20,17 @@ use std::alloc::Global;
 pub(crate) fn read_answer(
     heap: Global,
     answer: Option<Answer>,
-    rest: &[u8],
+    words: Words<'_>,
 ) -> Result<Answer, Problem>
-    ensures { read_as answer_of result ≡ answer_line (words rest.now) (option_map answer_of answer) }
+    ensures { read_as answer_of result ≡ answer_line words.entry (option_map answer_of answer) }
 {
     if answer.is_some() {
-        return Err(Problem::Answer(InAnswer::OneAnswer));
+        return Err(InAnswer::OneAnswer.into());
     }
-    match choice_in(rest, b"passes", b"refused") {
-        Some(true) => Ok(Answer::Passes(Vec::new(heap))),
-        Some(false) => Ok(Answer::Refused),
-        None => Err(Problem::Answer(InAnswer::Verdict)),
+    match words.only() {
+        Some(b"passes") => Ok(Answer::Passes(Vec::new(heap))),
+        Some(b"refused") => Ok(Answer::Refused),
+        _ => Err(InAnswer::Verdict.into()),
     }
 }
 
@@ -40,168 +38,128 @@ pub(crate) fn read_answer(
 pub(crate) fn read_with(
     heap: Global,
     answer: Option<Answer>,
-    rest: &[u8],
+    words: Words<'_>,
 ) -> Result<Answer, Problem>
-    ensures { sufficed result ≡ true → read_as answer_of result ≡ with_line (words rest.now) (option_map answer_of answer) }
+    ensures { sufficed result ≡ true → read_as answer_of result ≡ with_line words.entry (option_map answer_of answer) }
 {
     let Some(Answer::Passes(claims)) = answer else {
-        return Err(Problem::Answer(InAnswer::PassesFirst));
+        return Err(InAnswer::PassesFirst.into());
     };
-    let claim = claim_in(heap, rest)?;
+    let claim = claim_in(heap, words)?;
     Ok(Answer::Passes(add_claim(claims, claim)?))
 }
 
 // A claim more, unless there is one of its kind.
-fn add_claim(claims: Vec<Claim>, claim: Claim) -> Result<Vec<Claim>, Problem>
+fn add_claim(mut claims: Vec<Claim>, claim: Claim) -> Result<Vec<Claim>, Problem>
     ensures { sufficed result ≡ true → read_as (λ v. map said_of v.items) result ≡ part_added (map said_of claims.items) (said_of claim) }
 {
-    if has_kind(claims.as_slice(), kind(&claim)) {
-        return Err(Problem::Answer(InAnswer::OnePart));
+    if has_part(claims.as_slice(), claim.part()) {
+        return Err(InAnswer::OnePart.into());
     }
-    let mut claims = claims;
     claims.push(claim)?;
     Ok(claims)
 }
 
-// The kind of a claim, by its place among the kinds.
-fn kind(claim: &Claim) -> usize
-    ensures { result ≡ kind (said_of claim.now) }
+fn has_part(claims: &[Claim], part: Part) -> bool
+    ensures { result ≡ has_kind (place part) (map said_of claims.now) }
 {
-    match claim {
-        Claim::Destination(_) => 0,
-        Claim::Views(_) => 1,
-        Claim::Runs(_) => 2,
-        Claim::Tick(_) => 3,
-        Claim::LastRun(_) => 4,
-        Claim::Retention(_) => 5,
-        Claim::Context(_) => 6,
+    claims.iter().any(|claim| claim.part() == part)
+}
+
+fn claim_in(heap: Global, mut words: Words<'_>) -> Result<Claim, Problem>
+    ensures { sufficed result ≡ true → read_as said_of result ≡ part_in words.entry }
+{
+    let part = words.next().and_then(part_named).ok_or(InAnswer::Part)?;
+    claim_on(heap, part, words)
+}
+
+fn part_named(word: &[u8]) -> Option<Part>
+    ensures { result ≡ part_named word.now }
+{
+    match word {
+        b"destination" => Some(Part::Destination),
+        b"views" => Some(Part::Views),
+        b"runs" => Some(Part::Runs),
+        b"tick" => Some(Part::Tick),
+        b"last-run" => Some(Part::LastRun),
+        b"retention" => Some(Part::Retention),
+        b"context" => Some(Part::Context),
+        _ => None,
     }
 }
 
-fn has_kind(claims: &[Claim], sought: usize) -> bool
-    ensures { result ≡ has_kind sought (map said_of claims.now) }
+// What the words behind it say of a part.
+fn claim_on(heap: Global, part: Part, words: Words<'_>) -> Result<Claim, Problem>
+    ensures { sufficed result ≡ true → read_as said_of result ≡ part_by words.entry part }
 {
-    for claim in claims {
-        if kind(claim) == sought {
-            return true;
-        }
+    match part {
+        Part::Destination => claimed(
+            words.only().and_then(u32_in).map(Claim::Destination),
+            InAnswer::Destination,
+        ),
+        Part::Views => Ok(Claim::Views(views_in(heap, words)?)),
+        Part::Runs => Ok(Claim::Runs(runs_in(heap, words)?)),
+        Part::Tick => claimed(
+            words.only().and_then(i64_in).map(Claim::Tick),
+            InAnswer::Tick,
+        ),
+        Part::LastRun => claimed(
+            words.only().and_then(is_set).map(Claim::LastRun),
+            InAnswer::LastRun,
+        ),
+        Part::Retention => claimed(
+            words.only().and_then(u64_in).map(Claim::Retention),
+            InAnswer::Retention,
+        ),
+        Part::Context => claimed(
+            words.only().and_then(is_present).map(Claim::Context),
+            InAnswer::Context,
+        ),
     }
-    false
 }
 
-fn claim_in(heap: Global, rest: &[u8]) -> Result<Claim, Problem>
-    ensures { sufficed result ≡ true → read_as said_of result ≡ part_in (words rest.now) }
-{
-    let Some((part, more)) = first_word(rest) else {
-        return Err(Problem::Answer(InAnswer::Part));
-    };
-    if is(part, b"views") {
-        Ok(Claim::Views(views_in(heap, more)?))
-    } else if is(part, b"runs") {
-        Ok(Claim::Runs(runs_in(heap, more)?))
-    } else {
-        small_claim_in(part, more)
-    }
-}
-
-fn views_in(heap: Global, rest: &[u8]) -> Result<Vec<SsTableView>, Problem>
-    ensures { sufficed result ≡ true → read_as (λ v. map view_of v.items) result ≡ views_in (words rest.now) [] }
+fn views_in(heap: Global, words: Words<'_>) -> Result<Vec<SsTableView>, Problem>
+    ensures { sufficed result ≡ true → read_as (λ v. map view_of v.items) result ≡ views_in words.entry [] }
 {
     let mut views = Vec::new(heap);
-    let mut rest = rest;
-    while let Some((word, more)) = first_word(rest) {
-        let Some(view) = view_in(word) else {
-            return Err(Problem::Answer(InAnswer::View));
-        };
-        views.push(view)?;
-        rest = more;
+    for word in words {
+        views.push(view_in(word).ok_or(InAnswer::View)?)?;
     }
     Ok(views)
 }
 
-fn runs_in(heap: Global, rest: &[u8]) -> Result<Vec<u32>, Problem>
-    ensures { sufficed result ≡ true → read_as vec_items result ≡ runs_in (words rest.now) [] }
+fn runs_in(heap: Global, words: Words<'_>) -> Result<Vec<u32>, Problem>
+    ensures { sufficed result ≡ true → read_as vec_items result ≡ runs_in words.entry [] }
 {
     let mut ids = Vec::new(heap);
-    let mut rest = rest;
-    while let Some((word, more)) = first_word(rest) {
-        let Some(id) = u32_in(word) else {
-            return Err(Problem::Answer(InAnswer::Run));
-        };
-        ids.push(id)?;
-        rest = more;
+    for word in words {
+        ids.push(u32_in(word).ok_or(InAnswer::Run)?)?;
     }
     Ok(ids)
 }
 
-// A claim that is one word.
-fn small_claim_in(part: &[u8], rest: &[u8]) -> Result<Claim, Problem>
-    ensures { read_as said_of result ≡ small_part part.now (only_word (words rest.now)) }
-{
-    if is(part, b"destination") {
-        or_expected(destination_in(rest), InAnswer::Destination)
-    } else if is(part, b"tick") {
-        or_expected(tick_in(rest), InAnswer::Tick)
-    } else if is(part, b"last-run") {
-        or_expected(last_run_in(rest), InAnswer::LastRun)
-    } else if is(part, b"retention") {
-        or_expected(retention_in(rest), InAnswer::Retention)
-    } else if is(part, b"context") {
-        or_expected(context_in(rest), InAnswer::Context)
-    } else {
-        Err(Problem::Answer(InAnswer::Part))
-    }
-}
-
-fn or_expected(claim: Option<Claim>, expected: InAnswer) -> Result<Claim, Problem>
+fn claimed(claim: Option<Claim>, expected: InAnswer) -> Result<Claim, Problem>
     ensures { read_as said_of result ≡ or_else (option_map said_of claim) (problems.Answer expected) }
 {
-    match claim {
-        Some(claim) => Ok(claim),
-        None => Err(Problem::Answer(expected)),
+    Ok(claim.ok_or(expected)?)
+}
+
+fn is_set(word: &[u8]) -> Option<bool>
+    ensures { result ≡ choice (codes "set") (codes "unset") word.now }
+{
+    match word {
+        b"set" => Some(true),
+        b"unset" => Some(false),
+        _ => None,
     }
 }
 
-fn destination_in(rest: &[u8]) -> Option<Claim>
-    ensures { option_map said_of result ≡ option_map destination (with_word u32_of (only_word (words rest.now))) }
+fn is_present(word: &[u8]) -> Option<bool>
+    ensures { result ≡ choice (codes "present") (codes "absent") word.now }
 {
-    Some(Claim::Destination(u32_in(only(rest)?)?))
-}
-
-fn tick_in(rest: &[u8]) -> Option<Claim>
-    ensures { option_map said_of result ≡ option_map tick (with_word signed_of (only_word (words rest.now))) }
-{
-    Some(Claim::Tick(i64_in(only(rest)?)?))
-}
-
-fn last_run_in(rest: &[u8]) -> Option<Claim>
-    ensures { option_map said_of result ≡ option_map last_run (with_word (choice (codes "set") (codes "unset")) (only_word (words rest.now))) }
-{
-    Some(Claim::LastRun(choice_in(rest, b"set", b"unset")?))
-}
-
-fn retention_in(rest: &[u8]) -> Option<Claim>
-    ensures { option_map said_of result ≡ option_map retention (with_word u64_of (only_word (words rest.now))) }
-{
-    Some(Claim::Retention(u64_in(only(rest)?)?))
-}
-
-fn context_in(rest: &[u8]) -> Option<Claim>
-    ensures { option_map said_of result ≡ option_map context (with_word (choice (codes "present") (codes "absent")) (only_word (words rest.now))) }
-{
-    Some(Claim::Context(choice_in(rest, b"present", b"absent")?))
-}
-
-// One of two words: true for the first.
-fn choice_in(rest: &[u8], one: &[u8], other: &[u8]) -> Option<bool>
-    ensures { result ≡ with_word (choice one.now other.now) (only_word (words rest.now)) }
-{
-    let word = only(rest)?;
-    if is(word, one) {
-        Some(true)
-    } else if is(word, other) {
-        Some(false)
-    } else {
-        None
+    match word {
+        b"present" => Some(true),
+        b"absent" => Some(false),
+        _ => None,
     }
 }

@@ -1,11 +1,10 @@
 // The entries of a paper and the answers to them.
-ghost use Rattle.std.specs.Prelude.{◌≡◌, true, map};
+ghost use Rattle.std.specs.Prelude.{◌≡◌, true, map, ◌==◌};
 ghost use Rattle.std.specs.Option.{option_map};
 ghost use Rattle.table.specs.Ids.{number};
-ghost use Rattle.paper_text.specs.Words.{words, only_word};
-ghost use Rattle.paper_text.specs.Numbers.{id_of};
+ghost use Rattle.paper_text.specs.Words.{words};
 ghost use Rattle.problems.specs.Lines.{sufficed};
-ghost use Rattle.problems.specs.Outcomes.{read_as, with_word};
+ghost use Rattle.problems.specs.Outcomes.{read_as};
 ghost use Rattle.paper.specs.Answers.{answer_of};
 ghost use Rattle.paper.specs.Readings.{in_entries, asked_of, paper_of, entries_of, has_id, entries_read, entry_added, entry_after, said_line, question_line};
 
@@ -16,7 +15,7 @@ use entry_section::draft::EntryDraft;
 use marking::answer::Answer;
 use marking::marks::Question;
 use paper_text::numbers::id_in;
-use paper_text::words::{is, only};
+use paper_text::words::{Line, Words};
 use problems::error::Problem;
 use problems::expected::{InEntry, InPaper};
 use std::alloc::Global;
@@ -34,65 +33,49 @@ pub(crate) struct Entries {
 }
 
 // A line of an answer.
-fn said_line(
-    heap: Global,
-    answer: Option<Answer>,
-    keyword: &[u8],
-    rest: &[u8],
-) -> Result<Answer, Problem>
-    ensures { sufficed result ≡ true → read_as answer_of result ≡ said_line keyword.now (words rest.now) (option_map answer_of answer) }
+fn said_line(heap: Global, answer: Option<Answer>, line: Line<'_>) -> Result<Answer, Problem>
+    ensures { sufficed result ≡ true → read_as answer_of result ≡ said_line line.entry.keyword.now (words line.entry.rest.now) (option_map answer_of answer) }
 {
-    if is(keyword, b"answer") {
-        read_answer(heap, answer, rest)
-    } else if is(keyword, b"with") {
-        read_with(heap, answer, rest)
-    } else {
-        Err(Problem::Entry(InEntry::Keyword))
+    match line.keyword {
+        b"answer" => read_answer(heap, answer, line.words()),
+        b"with" => read_with(heap, answer, line.words()),
+        _ => Err(InEntry::Keyword.into()),
     }
 }
 
-fn only_id(rest: &[u8]) -> Option<Ulid>
-    ensures { option_map number result ≡ with_word id_of (only_word (words rest.now)) }
+fn is_same(id: Ulid, other: Ulid) -> bool
+    ensures { result ≡ (number id == number other) }
 {
-    id_in(only(rest)?)
+    id == other
 }
 
 fn has_id(questions: &[Question], id: Ulid) -> bool
     ensures { result ≡ has_id (number id) (map asked_of questions.now) }
 {
-    for question in questions {
-        if question.entry.id.is(id) {
-            return true;
-        }
-    }
-    false
+    questions
+        .iter()
+        .any(|question| is_same(question.entry.id, id))
 }
 
 impl Entries {
     // The next entry of a paper, whose id stands on a line.
-    pub(crate) fn begin(paper: Paper, line: usize, rest: &[u8]) -> Result<Entries, Problem>
-        ensures { read_as (λ e. in_entries (entries_of e)) result ≡ entry_after line (words rest.now) (paper_of paper) }
+    pub(crate) fn begin(paper: Paper, number: usize, words: Words<'_>) -> Result<Entries, Problem>
+        ensures { read_as (λ e. in_entries (entries_of e)) result ≡ entry_after number words.entry (paper_of paper) }
     {
-        match only_id(rest) {
-            Some(id) => Entries::add(paper, line, id),
-            None => Err(Problem::Paper(InPaper::EntryId)),
-        }
+        let id = words.only().and_then(id_in).ok_or(InPaper::EntryId)?;
+        Entries::add(paper, number, id)
     }
 
     // An entry begins, whose id no entry above has.
     fn add(paper: Paper, line: usize, id: Ulid) -> Result<Entries, Problem>
         ensures { read_as (λ e. in_entries (entries_of e)) result ≡ entry_added line (paper_of paper) (number id) }
     {
-        let Paper {
-            manifest,
-            questions,
-        } = paper;
-        if has_id(questions.as_slice(), id) {
-            return Err(Problem::Paper(InPaper::NewEntryId));
+        if has_id(paper.questions.as_slice(), id) {
+            return Err(InPaper::NewEntryId.into());
         }
         Ok(Entries {
-            manifest,
-            done: questions,
+            manifest: paper.manifest,
+            done: paper.questions,
             line,
             draft: EntryDraft::new(id),
             answer: None,
@@ -100,52 +83,33 @@ impl Entries {
     }
 
     // A line of the entry at hand, or of its answer.
-    pub(crate) fn read(self, heap: Global, keyword: &[u8], rest: &[u8]) -> Result<Entries, Problem>
-        ensures { sufficed result ≡ true → read_as entries_of result ≡ question_line keyword.now (words rest.now) (entries_of self) }
+    pub(crate) fn read(self, heap: Global, line: Line<'_>) -> Result<Entries, Problem>
+        ensures { sufficed result ≡ true → read_as entries_of result ≡ question_line line.entry.keyword.now (words line.entry.rest.now) (entries_of self) }
     {
-        let Entries {
-            manifest,
-            done,
-            line,
-            draft,
-            answer,
-        } = self;
-        let Some(read) = draft.read(keyword, rest) else {
-            let answer = Some(said_line(heap, answer, keyword, rest)?);
-            return Ok(Entries {
-                manifest,
-                done,
-                line,
-                draft,
-                answer,
-            });
-        };
-        let draft = read?;
-        Ok(Entries {
-            manifest,
-            done,
-            line,
-            draft,
-            answer,
-        })
+        match self.draft.read(line) {
+            Some(read) => Ok(Entries {
+                draft: read?,
+                ..self
+            }),
+            None => Ok(Entries {
+                answer: Some(said_line(heap, self.answer, line)?),
+                ..self
+            }),
+        }
     }
 
     // The entries with the one at hand.
     pub(crate) fn finish(self) -> Result<Paper, Problem>
         ensures { sufficed result ≡ true → read_as paper_of result ≡ entries_read (entries_of self) }
     {
-        let Entries {
-            manifest,
-            done,
-            line: _,
-            draft,
-            answer,
-        } = self;
-        let entry = draft.finish()?;
-        let mut questions = done;
-        questions.push(Question { entry, answer })?;
+        let entry = self.draft.finish()?;
+        let mut questions = self.done;
+        questions.push(Question {
+            entry,
+            answer: self.answer,
+        })?;
         Ok(Paper {
-            manifest,
+            manifest: self.manifest,
             questions,
         })
     }

@@ -2,7 +2,7 @@
 ghost use Rattle.std.specs.Prelude.{◌≡◌, true, ◌∷◌, IsUtf8, MatchResult, OnOk};
 ghost use Rattle.problems.specs.Texts.{NotText};
 ghost use Rattle.paper_text.specs.Words.{words};
-ghost use Rattle.problems.specs.Lines.{sufficed, sufficed_at};
+ghost use Rattle.problems.specs.Lines.{at, sufficed_at};
 ghost use Rattle.problems.specs.Outcomes.{read_as};
 ghost use Rattle.manifest_section.specs.ManifestLines.{begun_of};
 ghost use Rattle.paper.specs.Readings.{paper_of, begun_line, manifest_begun, entry_begun, part_read, words_read, line_read, paper_read, paper_in, in_manifest};
@@ -12,8 +12,8 @@ use crate::entries::Entries;
 use compactions::manifest::Manifest;
 use manifest_section::draft::ManifestDraft;
 use marking::marks::Question;
-use paper_text::lines::{before_comment, first_line, has_control};
-use paper_text::words::{first_word, is};
+use paper_text::lines::{Lines, before_comment, has_control};
+use paper_text::words::{Line, Words};
 use problems::error::{PaperError, Problem, at_line};
 use problems::expected::{InManifest, InPaper};
 use problems::text::check_utf8;
@@ -34,96 +34,91 @@ enum Reader {
 }
 
 // A line of the manifest.
-fn read_manifest(
-    draft: ManifestDraft,
-    keyword: &[u8],
-    rest: &[u8],
-) -> Result<ManifestDraft, Problem>
-    ensures { read_as begun_of result ≡ begun_line keyword.now (words rest.now) (begun_of draft) }
+fn read_manifest(draft: ManifestDraft, line: Line<'_>) -> Result<ManifestDraft, Problem>
+    ensures { read_as begun_of result ≡ begun_line line.entry.keyword.now (words line.entry.rest.now) (begun_of draft) }
 {
-    match draft.read(keyword, rest) {
-        Some(read) => read,
-        None => Err(Problem::Manifest(InManifest::Keyword)),
-    }
+    draft.read(line).ok_or(InManifest::Keyword)?
 }
 
 // A paper without entries.
 fn finish_manifest(heap: Global, draft: ManifestDraft) -> Result<Paper, PaperError>
     ensures { read_as paper_of result ≡ paper_read (in_manifest (begun_of draft)) }
 {
-    match draft.finish() {
-        Ok(manifest) => Ok(Paper {
-            manifest,
-            questions: Vec::new(heap),
-        }),
-        Err(problem) => Err(PaperError { line: 1, problem }),
-    }
+    let manifest = at_line(1, draft.finish())?;
+    Ok(Paper {
+        manifest,
+        questions: Vec::new(heap),
+    })
 }
 
 impl Reader {
-    fn read_line(self, heap: Global, line: usize, text: &[u8]) -> Result<Reader, PaperError>
-        ensures { sufficed_at result ≡ true → read_as stage_of result ≡ line_read line text.now (stage_of self) }
+    fn read_line(self, heap: Global, number: usize, text: &[u8]) -> Result<Reader, PaperError>
+        ensures { sufficed_at result ≡ true → read_as stage_of result ≡ line_read number text.now (stage_of self) }
     {
         if has_control(text) {
-            return at_line(line, Err(Problem::Paper(InPaper::NoControl)));
+            return at_line(number, Err(InPaper::NoControl.into()));
         }
-        match first_word(before_comment(text)) {
-            Some((keyword, rest)) => self.read_words(heap, line, keyword, rest),
+        match Line::of(before_comment(text)) {
+            Some(line) => self.read_words(heap, number, line),
             None => Ok(self),
         }
     }
 
-    fn read_words(
-        self,
-        heap: Global,
-        line: usize,
-        keyword: &[u8],
-        rest: &[u8],
-    ) -> Result<Reader, PaperError>
-        ensures { sufficed_at result ≡ true → read_as stage_of result ≡ words_read line (keyword.now ∷ words rest.now) (stage_of self) }
+    fn read_words(self, heap: Global, number: usize, line: Line<'_>) -> Result<Reader, PaperError>
+        ensures { sufficed_at result ≡ true → read_as stage_of result ≡ words_read number (line.entry.keyword.now ∷ words line.entry.rest.now) (stage_of self) }
     {
-        if is(keyword, b"manifest") {
-            at_line(line, self.begin_manifest(rest))
-        } else if is(keyword, b"entry") {
-            self.begin_entry(heap, line, rest)
+        // Compared by ==: as a match on byte strings the goal of its last arm did not close.
+        if line.keyword == b"manifest".as_slice() {
+            at_line(number, self.begin_manifest(line.words()))
+        } else if line.keyword == b"entry".as_slice() {
+            self.begin_entry(heap, number, line.words())
         } else {
-            at_line(line, self.read_part(heap, keyword, rest))
+            self.read_part(heap, number, line)
         }
     }
 
-    fn begin_manifest(self, rest: &[u8]) -> Result<Reader, Problem>
-        ensures { read_as stage_of result ≡ manifest_begun (words rest.now) (stage_of self) }
+    fn begin_manifest(self, mut words: Words<'_>) -> Result<Reader, Problem>
+        ensures { read_as stage_of result ≡ manifest_begun words.entry (stage_of self) }
     {
-        if first_word(rest).is_some() {
-            return Err(Problem::Paper(InPaper::ManifestAlone));
+        if words.next().is_some() {
+            return Err(InPaper::ManifestAlone.into());
         }
         match self {
             Reader::Start => Ok(Reader::Manifest(ManifestDraft::new())),
-            _ => Err(Problem::Paper(InPaper::OneManifest)),
+            _ => Err(InPaper::OneManifest.into()),
         }
     }
 
-    fn begin_entry(self, heap: Global, line: usize, rest: &[u8]) -> Result<Reader, PaperError>
-        ensures { sufficed_at result ≡ true → read_as stage_of result ≡ entry_begun line (words rest.now) (stage_of self) }
+    fn begin_entry(
+        self,
+        heap: Global,
+        number: usize,
+        words: Words<'_>,
+    ) -> Result<Reader, PaperError>
+        ensures { sufficed_at result ≡ true → read_as stage_of result ≡ entry_begun number words.entry (stage_of self) }
     {
         if let Reader::Start = self {
-            return at_line(line, Err(Problem::Paper(InPaper::ManifestFirst)));
+            return at_line(number, Err(InPaper::ManifestFirst.into()));
         }
         let paper = self.finish(heap)?;
-        match Entries::begin(paper, line, rest) {
-            Ok(entries) => Ok(Reader::Entries(entries)),
-            Err(problem) => Err(PaperError { line, problem }),
-        }
+        let entries = at_line(number, Entries::begin(paper, number, words))?;
+        Ok(Reader::Entries(entries))
     }
 
     // A line of the section at hand.
-    fn read_part(self, heap: Global, keyword: &[u8], rest: &[u8]) -> Result<Reader, Problem>
-        ensures { sufficed result ≡ true → read_as stage_of result ≡ part_read keyword.now (words rest.now) (stage_of self) }
+    fn read_part(self, heap: Global, number: usize, line: Line<'_>) -> Result<Reader, PaperError>
+        ensures { sufficed_at result ≡ true → read_as stage_of result ≡ at number (part_read line.entry.keyword.now (words line.entry.rest.now) (stage_of self)) }
     {
         match self {
-            Reader::Start => Err(Problem::Paper(InPaper::Manifest)),
-            Reader::Manifest(draft) => Ok(Reader::Manifest(read_manifest(draft, keyword, rest)?)),
-            Reader::Entries(entries) => Ok(Reader::Entries(entries.read(heap, keyword, rest)?)),
+            Reader::Start => at_line(number, Err(InPaper::Manifest.into())),
+            Reader::Manifest(draft) => {
+                let draft = at_line(number, read_manifest(draft, line))?;
+                Ok(Reader::Manifest(draft))
+            }
+            Reader::Entries(entries) => {
+                let entries = at_line(number, entries.read(heap, line))?;
+                Ok(Reader::Entries(entries))
+            }
         }
     }
 
@@ -132,12 +127,9 @@ impl Reader {
         ensures { sufficed_at result ≡ true → read_as paper_of result ≡ paper_read (stage_of self) }
     {
         match self {
-            Reader::Start => at_line(1, Err(Problem::Paper(InPaper::Manifest))),
+            Reader::Start => at_line(1, Err(InPaper::Manifest.into())),
             Reader::Manifest(draft) => finish_manifest(heap, draft),
-            Reader::Entries(entries) => {
-                let line = entries.line;
-                at_line(line, entries.finish())
-            }
+            Reader::Entries(entries) => at_line(entries.line, entries.finish()),
         }
     }
 }
@@ -147,14 +139,9 @@ fn read_lines(heap: Global, bytes: &[u8]) -> Result<Paper, PaperError>
     ensures { sufficed_at result ≡ true → read_as paper_of result ≡ paper_in bytes.now }
 {
     let mut reader = Reader::Start;
-    let mut line: usize = 1;
-    let mut text = bytes;
-    while let (first, Some(below)) = first_line(text) {
-        reader = reader.read_line(heap, line, first)?;
-        line += 1;
-        text = below;
+    for (i, text) in Lines::of(bytes).enumerate() {
+        reader = reader.read_line(heap, i + 1, text)?;
     }
-    let reader = reader.read_line(heap, line, text)?;
     reader.finish(heap)
 }
 

@@ -10,7 +10,7 @@ fn write_question<W: fmt::Write>(
     question: &Question,
     manifest: &Manifest,
 ) -> fmt::Result {
-    let id = question.entry.id.to_u128();
+    let id = question.entry.id;
     let verdict = Verdict::of(&question.entry, manifest);
     write!(f, "entry {id}: {verdict}")?;
     if let Some(answer) = &question.answer {

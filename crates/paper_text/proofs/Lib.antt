@@ -1,4 +1,3 @@
-mod Digits
 mod Scans
 mod WordCuts
 mod LineCuts

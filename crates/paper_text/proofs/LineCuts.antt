@@ -1,8 +1,7 @@
 -- The first line of a text, and a line up to its comment, are where the code cuts them.
-use Rattle.std.proofs.Common.{◌≡◌, ℕ, zero, suc, ◌+◌, ◌-◌, ◌<◌, ◌≤◌, Bool, true, false, cond, ◌&&◌, eqb, List, [], ◌∷◌, length, get_or, take, drop, Some, None, Option, sym, refl, ap, ◌∙◌, arith}
-use Rattle.std.proofs.lemmas.List.{at_drop_more, at_drop_all}
+use Rattle.std.proofs.Common.{◌≡◌, ℕ, zero, suc, ◌-◌, ◌≤◌, Bool, true, false, cond, ◌&&◌, eqb, List, [], ◌∷◌, length, get_or, take, Some, None, Option, sym, refl, ap, arith}
 use Rattle.std.proofs.lemmas.Bool.{cases_Bool, eq-eqb, ne_eqb}
-use Rattle.paper_text.specs.Lines.{parts, with_first, begins, onto, lines, without_return, line_after, before_comment, ends_control, control_after}
+use Rattle.paper_text.specs.Lines.{parts, with_first, begins, onto, lines, without_return, before_comment}
 
 -- the two parts of what was found
 abbrev first_of : Option (List ℕ × List ℕ) → List ℕ
@@ -58,16 +57,6 @@ lines_more (b ∷ bs) x y e = by (parts 10 bs) refl (eqb b 10) refl e (lines_mor
         let i = ih (c ∷ u) v (sym p) in let n = begins_not 10 bs c u v p in let t = cases_Bool (eqb b 13) in
         rw (f, g, n, i) (grind arith)
 
--- what is behind a mark is shorter
-pub parts_shorter : (mark : ℕ) (bs x y : List ℕ) → Some (x, y) ≡ parts mark bs → length y < length bs
-parts_shorter mark [] x y e = let z : ◌≡◌ {A = ℕ} 0 1 = cc in absurd (omega arith)
-parts_shorter mark (b ∷ bs) x y e = by (parts mark bs) refl (eqb b mark) e (parts_shorter mark bs)
-  where
-    by : (o : Option (List ℕ × List ℕ)) → parts mark bs ≡ o → (t : Bool) → Some (x, y) ≡ cond t (Some ([], bs)) (with_first b o) → ((u v : List ℕ) → Some (u, v) ≡ parts mark bs → length v < length bs) → length y < suc (length bs)
-    by o p true r ih = let g : y ≡ bs = ap second_of r in rw g (omega arith)
-    by None p false r ih = let z : ◌≡◌ {A = ℕ} 0 1 = cc in absurd (omega arith)
-    by (Some w) p false r ih = let g : y ≡ w.1 = ap second_of r in let i = ih w.0 w.1 (sym p) in rw g (omega arith)
-
 -- a line up to its comment
 pub comment_cut : (bs x y : List ℕ) → Some (x, y) ≡ parts 35 bs → x ≡ before_comment bs
 comment_cut [] x y e = let z : ◌≡◌ {A = ℕ} 0 1 = cc in absurd (omega arith)
@@ -110,29 +99,3 @@ return_cut_at bs l e = return_cut bs (length bs - 1) (omega arith) e
 
 pub return_none_at : (bs : List ℕ) → 1 ≤ length bs → (get_or bs (length bs - 1) 0 ≡ 13 → ⊥) → bs ≡ without_return bs
 return_none_at bs l e = return_none bs (length bs - 1) (omega arith) e
-
-pub return_of_nil : (bs : List ℕ) → length bs < 1 → bs ≡ without_return bs
-return_of_nil [] l = refl
-return_of_nil (b ∷ bs) l = absurd (omega arith)
-
--- a turn of the scan for a control character
-module _ (bs : List ℕ) (i before : ℕ) (whole : Bool) (rest : control_after before (drop i bs) ≡ whole) where
-  pub control_found : i < length bs → ends_control before (get_or bs i 0) ≡ true → true ≡ whole
-  control_found h e = let n = at_drop_more (control_after before) bs i 0 h in grind arith
-
-  pub control_goes : i < length bs → ends_control before (get_or bs i 0) ≡ false → control_after (get_or bs i 0) (drop (i + 1) bs) ≡ whole
-  control_goes h e = let n = at_drop_more (control_after before) bs i 0 h in grind arith
-
-  pub control_none : length bs ≤ i → false ≡ whole
-  control_none h = sym (at_drop_all (control_after before) bs i h) ∙ rest
-
--- lines so far, and those that are left
-module _ (bs : List ℕ) (i line next : ℕ) (inv : line + line_after (drop i bs) ≡ 1 + line_after bs) where
-  pub line_ends : i < length bs → get_or bs i 0 ≡ 10 → next ≡ line + 1 → next + line_after (drop (i + 1) bs) ≡ 1 + line_after bs
-  line_ends h e p = let n = at_drop_more line_after bs i 0 h in let t = eq-eqb (get_or bs i 0) 10 e in grind arith
-
-  pub line_goes : i < length bs → (get_or bs i 0 ≡ 10 → ⊥) → next ≡ line → next + line_after (drop (i + 1) bs) ≡ 1 + line_after bs
-  line_goes h e p = let n = at_drop_more line_after bs i 0 h in let t = ne_eqb (get_or bs i 0) 10 e in grind arith
-
-  pub line_last : length bs ≤ i → line ≡ line_after bs
-  line_last h = let n = at_drop_all line_after bs i h in omega arith

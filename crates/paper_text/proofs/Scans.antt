@@ -1,9 +1,14 @@
 -- Scans over bytes.
-use Rattle.std.proofs.Common.{◌≡◌, ℕ, zero, suc, ◌+◌, ◌-◌, ◌<◌, ◌≤◌, Bool, true, false, not, List, [], ◌∷◌, length, get_or, take, drop, Some, None, sym, refl, ap, add-one, arith}
+use Rattle.std.proofs.Common.{◌≡◌, ℕ, zero, suc, ◌+◌, ◌-◌, ◌<◌, Bool, not, eqb, List, [], ◌∷◌, length, get_or, take, drop, Some, None, Option, refl, sym, add-one, arith}
 use mathlib.Core.Bool.{beq}
-use Rattle.std.proofs.lemmas.List.{at_drop_more, at_drop_all, take_rest}
-use Rattle.std.proofs.lemmas.Bool.{not-true, not-false, eq-eqb, ne_eqb}
-use Rattle.paper_text.specs.Lines.{parts}
+use Rattle.std.specs.List.{position, position_or_len, filter}
+use Rattle.std.specs.Option.{unwrap_or}
+use Rattle.std.proofs.lemmas.Bool.{cases_Bool, eq-eqb, ne_eqb}
+use Rattle.std.proofs.lemmas.List.{take_rest}
+use Rattle.std.proofs.lemmas.List.Sums.{prefix_len-le-length}
+use Rattle.std.proofs.lemmas.Bool.Decides.{nat_tests}
+use Rattle.std.proofs.lemmas.List.Recursion.{is_position_or_len}
+use Rattle.paper_text.specs.Lines.{parts, line_after}
 use Rattle.paper_text.specs.Words.{is_blank, leading}
 
 -- the parts at the first mark, which is at i
@@ -27,20 +32,16 @@ parts_none mark (b ∷ bs) before =
     let ih = parts_none mark bs (λ k h. before (suc k) (omega arith)) in
     rw (n, ← ih)
 
-module _ (blank : Bool) (bs : List ℕ) (i : ℕ) (sofar : i + leading blank (drop i bs) ≡ leading blank bs) where
-  pub leading_more : (t : Bool) → i < length bs → t ≡ is_blank (get_or bs i 0) → not (beq t blank) ≡ false → i + 1 + leading blank (drop (i + 1) bs) ≡ leading blank bs
-  leading_more t h r e =
-      let n = at_drop_more (leading blank) bs i 0 h in
-      let f = ap (λ u. beq u blank) r in
-      let g = not-false _ e in
-      grind arith
+-- how many bytes at the front are blank, or are not: as many as stand before the first that differs
+leading_is : (blank : Bool) (bs : List ℕ) → leading blank bs ≡ position_or_len (λ b. not (beq (is_blank b) blank)) bs
+leading_is blank = is_position_or_len (leading blank) (λ b. not (beq (is_blank b) blank)) refl (λ b bs. let t = cases_Bool (beq (is_blank b) blank) in grind arith)
 
-  pub leading_ends : (t : Bool) → i < length bs → t ≡ is_blank (get_or bs i 0) → not (beq t blank) ≡ true → i ≡ leading blank bs
-  leading_ends t h r e =
-      let n = at_drop_more (leading blank) bs i 0 h in
-      let f = ap (λ u. beq u blank) r in
-      let g = not-true _ e in
-      grind arith
+pub leading_found : (blank : Bool) (bs : List ℕ) (r : Option ℕ) → r ≡ position (λ b. not (beq (is_blank b) blank)) bs → unwrap_or r (length bs) ≡ leading blank bs
+leading_found blank bs r e =
+    let n = prefix_len-le-length (λ b. not (not (beq (is_blank b) blank))) bs in
+    rw (e, leading_is blank bs) (grind (arith, nat_tests))
 
-  pub leading_all : length bs ≤ i → i ≤ length bs → length bs ≡ leading blank bs
-  leading_all h k = let n = at_drop_all (leading blank) bs i h in grind arith
+-- a line more for each LF
+pub line_after_is : (bs : List ℕ) → 1 + length (filter (λ b. eqb b 10) bs) ≡ line_after bs
+line_after_is [] = refl
+line_after_is (b ∷ bs) = let ih = line_after_is bs in let t = cases_Bool (eqb b 10) in grind arith

@@ -1,8 +1,8 @@
 -- Numbers, ids, views and segments, as words write them.
-use Rattle.std.specs.Prelude.{ℕ, ◌%◌, ◌^◌, Bool, true, cond, ◌&&◌, List, [], ◌∷◌, length, ℤ, pos, neg_ℤ, is_some, Some, None, Ok, Err, codes, Option, Result, ◌==◌, nat_le, nat_lt}
+use Rattle.std.specs.Prelude.{ℕ, ◌%◌, ◌^◌, Bool, cond, ◌&&◌, List, [], ◌∷◌, length, ℤ, pos, neg_ℤ, is_some, Some, None, Ok, Err, codes, Option, Result, ◌==◌, nat_le, nat_lt}
+use Rattle.std.specs.List.{list_all}
 use Rattle.table.specs.Counted.{items_of}
 use Rattle.compactions.specs.Trees.{View}
-use Rattle.compactions.specs.declared.refusal.Refusal.{Refusal}
 use Rattle.table.specs.declared.rows.Rows.{Rows}
 use Rattle.paper_text.specs.Digits.{digit_value, number_in, below, byte_value}
 use Rattle.paper_text.specs.Lines.{parts}
@@ -64,8 +64,7 @@ value_of None = 0
 value_of (Some d) = d
 
 abbrev pub all_digits : List ℕ → Bool
-all_digits [] = true
-all_digits (b ∷ bs) = is_some (digit_value b) && all_digits bs
+all_digits bs = list_all (λ b. is_some (digit_value b)) bs
 
 -- a byte for each pair of digits
 abbrev pub pairs : List ℕ → List ℕ
@@ -88,11 +87,11 @@ segment_of [] = Some []
 segment_of (w ∷ []) = segment_by (behind (codes "hex:") w) w
 segment_of (w ∷ (v ∷ ws)) = None
 
--- at most 16 bytes, or the refusal
-abbrev pub held : Refusal → List ℕ → Result (List ℕ) Refusal
+-- at most 16 bytes, or what more are refused with
+abbrev pub held : {E : Type 0} → E → List ℕ → Result (List ℕ) E
 held over bs = cond (nat_le (length bs) 16) (Ok bs) (Err over)
 
 -- what the code holds of a segment
-abbrev pub held_bytes : Result (Rows ℕ 16) Refusal → Result (List ℕ) Refusal
+abbrev pub held_bytes : {E : Type 0} → Result (Rows ℕ 16) E → Result (List ℕ) E
 held_bytes (Ok r) = Ok (items_of r)
 held_bytes (Err e) = Err e

@@ -1,25 +1,35 @@
 // The lines of a text, and what of a line is read.
-ghost use Rattle.std.specs.Prelude.{◌≡◌, ◌<◌, ◌∷◌, length, MatchOption};
+ghost use Rattle.std.specs.Prelude.{◌≡◌, List, ◌∷◌, ℕ};
+ghost use Rattle.std.specs.Iterator.{YieldsFirstBy, item_count};
 ghost use Rattle.std.specs.Option.{option_map};
 ghost use Rattle.paper_text.specs.Lines.{parts, lines, without_return, lines_below, line_after, before_comment, ends_control, has_control};
+
+use std::marker::Model;
+
+// The lines that are left of a text, seen as a list. A line ends at LF, and a CR just before that
+// is no part of it; the last line needs no LF, and none is left below it.
+#[derive(Drop)]
+pub struct Lines<'a> {
+    below: Option<&'a [u8]>,
+}
+
+impl<'a> Model for Lines<'a> {
+    ghost Value = { List (List ℕ) };
+
+    ghost view = { λ l. lines_below l.below };
+}
 
 // What stands before and behind the first such byte.
 pub(crate) fn split_at(bytes: &[u8], mark: u8) -> Option<(&[u8], &[u8])>
     ensures { option_map (λ p. (p.0.now, p.1.now)) result ≡ parts mark bytes.now }
 {
-    for (i, b) in bytes.iter().enumerate() {
-        if *b == mark {
-            return Some((&bytes[..i], &bytes[i + 1..]));
-        }
-    }
-    None
+    let at = bytes.iter().position(|b| *b == mark)?;
+    Some((&bytes[..at], &bytes[at + 1..]))
 }
 
-// The first line of a text, and the text below it. A line ends at LF, and a CR just before that is
-// no part of it; the last line needs no LF.
-pub fn first_line(text: &[u8]) -> (&[u8], Option<&[u8]>)
-    ensures value { lines text.now ≡ result.0.now ∷ lines_below result.1 }
-    ensures shorter { MatchOption result.1 (result.0.now ≡ text.now) (λ below. length below.now < length text.now) }
+// The first line of a text, and the text below it.
+fn first_line(text: &[u8]) -> (&[u8], Option<&[u8]>)
+    ensures { lines text.now ≡ result.0.now ∷ lines_below result.1 }
 {
     match split_at(text, b'\n') {
         Some((line, below)) => (without_return(line), Some(below)),
@@ -36,17 +46,33 @@ fn without_return(line: &[u8]) -> &[u8]
     }
 }
 
+impl<'a> Lines<'a> {
+    pub fn of(text: &'a [u8]) -> Lines<'a>
+        ensures { result ≡ lines text.now }
+    {
+        Lines { below: Some(text) }
+    }
+}
+
+impl<'a> Iterator for Lines<'a> {
+    type Item = &'a [u8];
+
+    ghost next_gives = { YieldsFirstBy (λ l. l.now) (λ ls. ls) };
+
+    ghost remaining = { item_count (λ ls. ls) };
+
+    fn next(&mut self) -> Option<&'a [u8]> {
+        let (line, below) = first_line(self.below?);
+        self.below = below;
+        Some(line)
+    }
+}
+
 // The number of the line that follows a text, counted from 1.
 pub fn line_after(text: &[u8]) -> usize
     ensures { result ≡ line_after text.now }
 {
-    let mut line: usize = 1;
-    for b in text {
-        if *b == b'\n' {
-            line += 1;
-        }
-    }
-    line
+    1 + text.iter().filter(|b| **b == b'\n').count()
 }
 
 // A line up to its comment.

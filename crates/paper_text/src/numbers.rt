@@ -13,19 +13,15 @@ use table::ulid::Ulid;
 // The most digits of an id in hex.
 const HEX_DIGITS: usize = 32;
 
-pub(crate) fn digit(b: u8) -> Option<u8>
+// The value of a digit in base 16 or below.
+pub(crate) fn digit(b: u8) -> Option<u32>
     ensures { result ≡ digit_value b }
 {
-    match b {
-        b'0'..=b'9' => Some(b - b'0'),
-        b'a'..=b'f' => Some(b - b'a' + 10),
-        b'A'..=b'F' => Some(b - b'A' + 10),
-        _ => None,
-    }
+    char::from(b).to_digit(16)
 }
 
 // A digit more after a number: none where it is not below the base or the whole passes 128 bits.
-fn with_digit(value: u128, base: u8, b: u8) -> Option<u128>
+fn with_digit(value: u128, base: u32, b: u8) -> Option<u128>
     ensures { result ≡ with_digit base value (digit_value b) }
 {
     let next = digit(b)?;
@@ -38,7 +34,7 @@ fn with_digit(value: u128, base: u8, b: u8) -> Option<u128>
 }
 
 // A number of at least one digit below the base, unless it passes 128 bits.
-fn number(word: &[u8], base: u8) -> Option<u128>
+fn number(word: &[u8], base: u32) -> Option<u128>
     ensures { result ≡ number_in base word.now }
 {
     if word.is_empty() {
@@ -83,22 +79,14 @@ pub fn i64_in(word: &[u8]) -> Option<i64>
 fn positive(value: u128) -> Option<i64>
     ensures { result ≡ positive (Some value) }
 {
-    if value < 0x8000_0000_0000_0000 {
-        Some(value as i64)
-    } else {
-        None
-    }
+    i64::try_from(value).ok()
 }
 
 // The same below zero.
 fn negative(value: u128) -> Option<i64>
     ensures { result ≡ negative (Some value) }
 {
-    if value <= 0x8000_0000_0000_0000 {
-        Some(-(value as i128) as i64)
-    } else {
-        None
-    }
+    0_i64.checked_sub_unsigned(u64::try_from(value).ok()?)
 }
 
 // An id in decimal, or in hex after 0x.
@@ -109,7 +97,7 @@ pub fn id_in(word: &[u8]) -> Option<Ulid>
         Some(hex) => hex_number(hex)?,
         None => number(word, 10)?,
     };
-    Some(Ulid::from_u128(value))
+    Some(Ulid::from(value))
 }
 
 fn hex_number(digits: &[u8]) -> Option<u128>

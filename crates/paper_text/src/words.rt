@@ -1,10 +1,29 @@
 // The words of a line: bytes between spaces and tabs.
-//
-// Words are taken from the front. What is left of a line stands for the words in it.
-ghost use Rattle.std.specs.Prelude.{◌≡◌, ◌<◌, ◌≤◌, [], ◌∷◌, length, MatchOption};
+ghost use Rattle.std.specs.Prelude.{◌≡◌, ◌≤◌, List, [], ◌∷◌, ℕ, length, MatchOption};
+ghost use Rattle.std.specs.Iterator.{YieldsFirstBy, item_count};
 ghost use Rattle.std.specs.Option.{option_map};
-ghost use Rattle.std.specs.Str.{bytes_eq};
 ghost use Rattle.paper_text.specs.Words.{is_blank, words, leading, only_word};
+
+use std::marker::Model;
+
+// The words that are left of a line, seen as a list. They are taken from the front.
+#[derive(Drop)]
+pub struct Words<'a> {
+    left: &'a [u8],
+}
+
+impl<'a> Model for Words<'a> {
+    ghost Value = { List (List ℕ) };
+
+    ghost view = { λ w. words w.left.now };
+}
+
+// The first word of a line, and what is left of the line behind it.
+#[derive(Clone, Copy)]
+pub struct Line<'a> {
+    pub keyword: &'a [u8],
+    pub rest: &'a [u8],
+}
 
 fn is_blank(b: u8) -> bool
     ensures { result ≡ is_blank b }
@@ -17,40 +36,58 @@ fn leading(line: &[u8], blank: bool) -> usize
     ensures value { result ≡ leading blank line.now }
     ensures within { result ≤ length line.now }
 {
-    for (i, b) in line.iter().enumerate() {
-        if is_blank(*b) != blank {
-            return i;
+    line.iter()
+        .position(|b| is_blank(*b) != blank)
+        .unwrap_or(line.len())
+}
+
+impl<'a> Words<'a> {
+    // The word, where there is no other.
+    pub fn only(mut self) -> Option<&'a [u8]>
+        ensures { option_map (λ w. w.now) result ≡ only_word self.entry }
+    {
+        let word = self.next()?;
+        match self.next() {
+            Some(_) => None,
+            None => Some(word),
         }
     }
-    line.len()
 }
 
-// The first word, and what is left of the line behind it.
-pub fn first_word(line: &[u8]) -> Option<(&[u8], &[u8])>
-    ensures { MatchOption result (words line.now ≡ []) (λ p. (words line.now ≡ p.0.now ∷ words p.1.now) × (length p.1.now < length line.now)) }
-{
-    let dark = &line[leading(line, true)..];
-    if dark.is_empty() {
-        return None;
-    }
-    let end = leading(dark, false);
-    Some((&dark[..end], &dark[end..]))
-}
+impl<'a> Iterator for Words<'a> {
+    type Item = &'a [u8];
 
-// The word of a line that has no other.
-pub fn only(line: &[u8]) -> Option<&[u8]>
-    ensures { option_map (λ w. w.now) result ≡ only_word (words line.now) }
-{
-    let (word, rest) = first_word(line)?;
-    match first_word(rest) {
-        Some(_) => None,
-        None => Some(word),
+    ghost next_gives = { YieldsFirstBy (λ w. w.now) (λ ws. ws) };
+
+    ghost remaining = { item_count (λ ws. ws) };
+
+    fn next(&mut self) -> Option<&'a [u8]> {
+        let line = Line::of(self.left)?;
+        self.left = line.rest;
+        Some(line.keyword)
     }
 }
 
-// Whether a word is that keyword.
-pub fn is(word: &[u8], keyword: &[u8]) -> bool
-    ensures { result ≡ bytes_eq word.now keyword.now }
-{
-    word == keyword
+impl<'a> Line<'a> {
+    // None where a line has no word.
+    pub fn of(text: &'a [u8]) -> Option<Line<'a>>
+        ensures { MatchOption result (words text.now ≡ []) (λ l. words text.now ≡ l.keyword.now ∷ words l.rest.now) }
+    {
+        let dark = &text[leading(text, true)..];
+        if dark.is_empty() {
+            return None;
+        }
+        let end = leading(dark, false);
+        Some(Line {
+            keyword: &dark[..end],
+            rest: &dark[end..],
+        })
+    }
+
+    // The words behind the first.
+    pub fn words(self) -> Words<'a>
+        ensures { result ≡ words self.entry.rest.now }
+    {
+        Words { left: self.rest }
+    }
 }

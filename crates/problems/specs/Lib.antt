@@ -1,3 +1,4 @@
 pub mod Outcomes
 pub mod Lines
 pub mod Texts
+pub mod Limits

@@ -1,5 +1,5 @@
 -- What reading a line gives.
-use Rattle.std.specs.Prelude.{ℕ, List, Some, None, Ok, Err, Option, Result}
+use Rattle.std.specs.Prelude.{ℕ, Bool, true, false, List, Some, None, Ok, Err, Option, Result}
 
 -- a result by the meaning of its value
 abbrev pub read_as : {X Y E : Type 0} → (X → Y) → Result X E → Result Y E
@@ -20,3 +20,8 @@ or_else (Some x) e = Ok x
 abbrev pub with_word : {X : Type 0} → (List ℕ → Option X) → Option (List ℕ) → Option X
 with_word f None = None
 with_word f (Some w) = f w
+
+-- a part that is said once: `again` where it was said before, `wrong` where nothing was read
+abbrev pub once : {X E : Type 0} → Bool → Option X → E → E → Result X E
+once true read again wrong = Err again
+once false read again wrong = or_else read wrong

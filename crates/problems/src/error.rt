@@ -1,88 +1,67 @@
 // Why a paper is refused: the line, and what was expected there or which limit was passed.
 ghost use Rattle.std.specs.Prelude.{◌≡◌};
-ghost use Rattle.problems.specs.declared.error.Problem.TheVariants.{Paper, Manifest, Entry, Answer, Memory};
+ghost use Rattle.problems.specs.declared.error.Problem.TheVariants.{Paper, Manifest, Entry, Answer, Refused, Memory};
 ghost use Rattle.problems.specs.Lines.{at};
+ghost use Rattle.problems.specs.Limits.{refusal_of};
 
 use crate::expected::{InAnswer, InEntry, InManifest, InPaper};
 use compactions::refusal::Refusal;
 use std::alloc::{AllocError, AllocFailed};
-use std::fmt;
+use thiserror::Error;
 
 // How many parts a value may have, and the order of prefixes.
-#[derive(Clone, Copy)]
+#[derive(Clone, Copy, Debug, Error)]
 pub enum Limit {
+    #[error("an entry's segment has at most 16 bytes")]
     EntrySegment,
+    #[error("an entry has at most 8 sources")]
     Sources,
+    #[error("an entry has at most 8 outputs")]
     Outputs,
+    #[error("a context has at most 4 subcompactions")]
     Subcompactions,
+    #[error("a subcompaction has at most 4 outputs")]
     SubcompactionOutputs,
+    #[error("a run has at most 8 views")]
     RunViews,
+    #[error("a tree has at most 16 views")]
     TreeViews,
+    #[error("a tree has at most 8 runs")]
     TreeRuns,
+    #[error("a prefix has at most 16 bytes")]
     PrefixLength,
+    #[error("a manifest has at most 8 segments")]
     Segments,
+    #[error("a prefix must not be empty and must stand above the last one")]
     PrefixOrder,
 }
 
-#[derive(Clone, Copy)]
+#[derive(Clone, Copy, Debug, Error)]
 pub enum Problem {
+    #[error("expected {0}")]
     Paper(InPaper),
+    #[error("expected {0}")]
     Manifest(InManifest),
+    #[error("expected {0}")]
     Entry(InEntry),
+    #[error("expected {0}")]
     Answer(InAnswer),
+    #[error("refused with {number}: {1}", number = .0.number())]
     Refused(Refusal, Limit),
+    #[error("out of memory")]
     Memory,
 }
 
 // A problem and its line, counted from 1.
-#[derive(Clone, Copy)]
+#[derive(Clone, Copy, Debug, Error)]
+#[error("line {line}: {problem}")]
 pub struct PaperError {
     pub line: usize,
     pub problem: Problem,
 }
 
-impl fmt::Display for Limit {
-    fn fmt<W: fmt::Write>(&self, f: &mut fmt::Formatter<W>) -> fmt::Result {
-        f.write_str(match self {
-            Limit::EntrySegment => "an entry's segment has at most 16 bytes",
-            Limit::Sources => "an entry has at most 8 sources",
-            Limit::Outputs => "an entry has at most 8 outputs",
-            Limit::Subcompactions => "a context has at most 4 subcompactions",
-            Limit::SubcompactionOutputs => "a subcompaction has at most 4 outputs",
-            Limit::RunViews => "a run has at most 8 views",
-            Limit::TreeViews => "a tree has at most 16 views",
-            Limit::TreeRuns => "a tree has at most 8 runs",
-            Limit::PrefixLength => "a prefix has at most 16 bytes",
-            Limit::Segments => "a manifest has at most 8 segments",
-            Limit::PrefixOrder => "a prefix must not be empty and must stand above the last one",
-        })
-    }
-}
-
-impl fmt::Display for Problem {
-    fn fmt<W: fmt::Write>(&self, f: &mut fmt::Formatter<W>) -> fmt::Result {
-        match self {
-            Problem::Paper(what) => write!(f, "expected {what}"),
-            Problem::Manifest(what) => write!(f, "expected {what}"),
-            Problem::Entry(what) => write!(f, "expected {what}"),
-            Problem::Answer(what) => write!(f, "expected {what}"),
-            Problem::Refused(refusal, limit) => {
-                let number = refusal.number();
-                write!(f, "refused with {number}: {limit}")
-            }
-            Problem::Memory => f.write_str("out of memory"),
-        }
-    }
-}
-
-impl fmt::Display for PaperError {
-    fn fmt<W: fmt::Write>(&self, f: &mut fmt::Formatter<W>) -> fmt::Result {
-        let line = self.line;
-        let problem = self.problem;
-        write!(f, "line {line}: {problem}")
-    }
-}
-
+// By hand, as those below: the derive's `From` has no contract, and clauses name the problem that a
+// `?` makes.
 impl From<InPaper> for Problem {
     ghost from_gives = { λ what r. r ≡ Paper what };
 
@@ -115,6 +94,29 @@ impl From<InAnswer> for Problem {
     }
 }
 
+impl Limit {
+    // What a value is refused with that passes the limit.
+    pub fn refusal(self) -> Refusal
+        ensures { result ≡ refusal_of self }
+    {
+        match self {
+            Limit::TreeViews | Limit::TreeRuns | Limit::PrefixLength | Limit::Segments => {
+                Refusal::ManifestCount
+            }
+            Limit::PrefixOrder => Refusal::Prefix,
+            _ => Refusal::Count,
+        }
+    }
+}
+
+impl From<Limit> for Problem {
+    ghost from_gives = { λ limit r. r ≡ Refused (refusal_of limit) limit };
+
+    fn from(limit: Limit) -> Problem {
+        Problem::Refused(limit.refusal(), limit)
+    }
+}
+
 impl From<AllocError> for Problem {
     ghost from_gives = { λ _ r. r ≡ Memory };
 
@@ -135,8 +137,5 @@ impl<T: Drop> From<AllocFailed<T>> for Problem {
 pub fn at_line<T>(line: usize, read: Result<T, Problem>) -> Result<T, PaperError>
     ensures { result ≡ at line read }
 {
-    match read {
-        Ok(value) => Ok(value),
-        Err(problem) => Err(PaperError { line, problem }),
-    }
+    read.map_err(|problem| PaperError { line, problem })
 }

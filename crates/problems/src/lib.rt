@@ -3,4 +3,5 @@
 
 pub mod error;
 pub mod expected;
+pub mod once;
 pub mod text;

@@ -1,12 +1,10 @@
-use Rattle.std.proofs.Common.{◌≡◌, length}
+use Rattle.std.proofs.Common.{◌≡◌}
 use Rattle.compactions.specs.Meanings.{sub_of}
-use Rattle.paper_text.specs.Words.{words}
 use Rattle.entry_section.specs.EntryParts.{with_outputs}
 use Rattle.entry_section.proofs.parts.with_outputs.Given as goal
 
--- the words from here on, on what was read
+-- the subcompaction so far, with the outputs of the words that are left
 abbrev pub invariant-loop-word : goal.invariant-loop-word
-invariant-loop-word l = with_outputs (words l.rest) (sub_of l.sub) ≡ with_outputs (words l.outputs) (sub_of l.initial.sub)
-
-abbrev pub decreases-loop-word : goal.decreases-loop-word
-decreases-loop-word l = length l.rest
+invariant-loop-word l =
+    ((goal.iterator-loop-word).can_next l.word-iterator × (goal.iterator-loop-word).is_finite l.word-iterator)
+    × (with_outputs l.word-iterator (sub_of l.sub) ≡ with_outputs l.fn.words (sub_of l.fn.sub))

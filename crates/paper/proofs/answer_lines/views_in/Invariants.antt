@@ -1,12 +1,10 @@
-use Rattle.std.proofs.Common.{◌≡◌, [], map, length, vec_items}
+use Rattle.std.proofs.Common.{◌≡◌, [], map, vec_items}
 use Rattle.compactions.specs.Meanings.{view_of}
-use Rattle.paper_text.specs.Words.{words}
 use Rattle.paper.specs.AnswerLines.{views_in}
 use Rattle.paper.proofs.answer_lines.views_in.Given as goal
 
--- the words from here on, after what was read
+-- what was read, with the words that are left
 abbrev pub invariant-loop-word : goal.invariant-loop-word
-invariant-loop-word l = views_in (words l.rest) (map view_of (vec_items l.views)) ≡ views_in (words l.initial.rest) []
-
-abbrev pub decreases-loop-word : goal.decreases-loop-word
-decreases-loop-word l = length l.rest
+invariant-loop-word l =
+    ((goal.iterator-loop-word).can_next l.word-iterator × (goal.iterator-loop-word).is_finite l.word-iterator)
+    × (views_in l.word-iterator (map view_of (vec_items l.views)) ≡ views_in l.fn.words [])

@@ -1,14 +1,10 @@
-use Rattle.std.proofs.Common.{arith}
-use Rattle.paper_text.proofs.LineCuts.{line_ends, line_goes, line_last}
+use Rattle.std.proofs.Common.{◌+◌, eqb, ap, ◌∙◌, rules, tests}
+use Rattle.std.proofs.lemmas.Iterator.{YieldsList-from_slice}
+use Rattle.std.proofs.lemmas.Iterator.Consumers.{count_from_yields_List, YieldsList-from_filter}
+use Rattle.paper_text.proofs.Scans.{line_after_is}
 use Rattle.paper_text.proofs.lines.line_after.Goals as goal
-use Rattle.paper_text.proofs.lines.line_after.Goals.{then-b-eq10, else-b-eq10}
-
-pub loop-b-preserved : goal.loop-b-preserved
-loop-b-preserved c =
-    elim c.if-b-eq10.branch [
-      | then-b-eq10 w ↦ (line_ends c.args.text.now _ _ _ c.loop-b.invariant.0 c.loop-b-test.true w.if-b-eq10.true w.line-is, omega (arith, w.line-is))
-      | else-b-eq10 w ↦ (line_goes c.args.text.now _ _ _ c.loop-b.invariant.0 c.loop-b-test.true w.if-b-eq10.false w.line-is, omega (arith, w.line-is))
-    ]
 
 pub returns : goal.returns
-returns c = line_last c.args.text.now _ _ c.loop-b.line c.loop-b.invariant.0 c.loop-b-test.false
+returns c =
+    let count = count_from_yields_List c.filter.result c.count.result c.count.ensures.ran (YieldsList-from_filter _ (λ b. eqb b 10) (YieldsList-from_slice c.args.text.now cc) c.filter.ensures.closure (λ x r q k. search (rules, tests))) in
+    ap (λ n. 1 + n) count ∙ line_after_is c.args.text.now

@@ -1,16 +1,12 @@
-use Rattle.paper_text.proofs.Scans.{leading_more, leading_ends, leading_all}
-use Rattle.std.proofs.Common.{arith}
+use Rattle.std.proofs.Common.{not, ◌∙◌, rules, tests}
+use mathlib.Core.Bool.{beq}
+use Rattle.std.proofs.lemmas.Iterator.{YieldsList-from_slice}
+use Rattle.std.proofs.lemmas.Iterator.Search.{position_from_yields_List}
+use Rattle.paper_text.specs.Words.{is_blank}
+use Rattle.paper_text.proofs.Scans.{leading_found}
 use Rattle.paper_text.proofs.words.leading.Goals as goal
 
-pub returns-then-is_blank-blank : goal.returns-then-is_blank-blank
-returns-then-is_blank-blank c =
-    record {
-      value = leading_ends _ _ _ c.loop-i.invariant _ c.loop-i-test.true c.is_blank.ensures c.if-is_blank-blank.true;
-      within = omega arith;
-    }
-
-pub loop-i-preserved : goal.loop-i-preserved
-loop-i-preserved c = leading_more _ _ _ c.loop-i.invariant _ c.loop-i-test.true c.is_blank.ensures c.if-is_blank-blank.false
-
-pub returns : goal.returns
-returns c = record { value = leading_all _ _ _ c.loop-i.invariant (omega arith) (omega arith); within = omega arith }
+pub returns-clause-value : goal.returns-clause-value
+returns-clause-value c =
+    let found = position_from_yields_List (λ b. not (beq (is_blank b) c.args.blank)) _ _ c.position.result c.position.ensures.ran (YieldsList-from_slice c.args.line.now cc) (λ x b q k. search (rules, tests)) in
+    c.unwrap_or.ensures ∙ leading_found _ _ _ found
