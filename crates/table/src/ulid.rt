@@ -1,6 +1,6 @@
 // An id of 128 bits in two halves; the high half is compared first.
-ghost use Rattle.std.specs.Prelude.{◌≡◌, Decides, ◌==◌, nat_lt};
-ghost use Rattle.table.specs.Ids.{number};
+ghost use Rattle.std.specs.Prelude.{◌≡◌};
+ghost use Rattle.table.specs.Ids.{number, ByNumber};
 
 use std::fmt;
 
@@ -24,7 +24,11 @@ impl From<u128> for Ulid {
 impl From<Ulid> for u128 {
     ghost from_gives = { λ id value. value ≡ number id };
 
-    fn from(id: Ulid) -> u128 {
+    // Ids are compared as their numbers are.
+    fn from(id: Ulid) -> u128
+        ensures value { result ≡ number id }
+        ensures order { ByNumber ⟦<Ulid as PartialEq>⟧.eq ⟦<Ulid as PartialOrd>⟧.partial_cmp }
+    {
         id.high as u128 * 0x1_0000_0000_0000_0000 + id.low as u128
     }
 }
@@ -34,32 +38,5 @@ impl fmt::Display for Ulid {
     fn fmt<W: fmt::Write>(&self, f: &mut fmt::Formatter<W>) -> fmt::Result {
         let number = u128::from(*self);
         write!(f, "{number}")
-    }
-}
-
-impl Ulid {
-    pub fn from_u128(value: u128) -> Ulid
-        ensures { number result ≡ value }
-    {
-        Ulid::from(value)
-    }
-
-    pub fn to_u128(self) -> u128
-        ensures { result ≡ number self }
-    {
-        u128::from(self)
-    }
-
-    pub fn is_before(self, other: Ulid) -> bool
-        ensures { result ≡ nat_lt (number self) (number other) }
-    {
-        self < other
-    }
-
-    pub fn is(self, other: Ulid) -> bool
-        ensures number { result ≡ (number self == number other) }
-        ensures same { Decides result (self ≡ other) }
-    {
-        self == other
     }
 }
