@@ -1,12 +1,11 @@
 -- Segments in the order of their prefixes: the last one, one more, and the one with a prefix.
-use Rattle.std.proofs.Common.{◌≡◌, ℕ, ◌-◌, Bool, true, false, cond, ◌&&◌, eqb, List, [], ◌∷◌, ◌++◌, map, length, Some, None, Option, Bor, refl, sym, ap, ◌∙◌, arith}
+use Rattle.std.proofs.Common.{◌≡◌, ℕ, ◌-◌, Bool, true, false, cond, eqb, List, [], ◌∷◌, ◌++◌, map, length, Some, None, Option, Bor, refl, sym, ap, ◌∙◌, arith}
 use Rattle.std.proofs.lemmas.List.{map_push}
 use Rattle.std.proofs.lemmas.Bool.{cases_Bool, true≢false}
 use Rattle.std.specs.List.{slice_get, find}
 use Rattle.std.specs.Option.{option_copied, option_map, MatchOption, IsSomeAnd}
 use Rattle.std.specs.Str.{bytes_eq}
 use Rattle.table.proofs.Last.{from_last}
-use Rattle.compactions.specs.Refusals.{unless, unless_either}
 use Rattle.compactions.specs.Trees.{Segment, Manifest}
 use Rattle.compactions.specs.Prefixes.{before, rises, latest}
 use Rattle.compactions.specs.Trees.{named, tree_for}
@@ -50,14 +49,3 @@ pub seen_through : {A B C : Type 0} (f : A → C) (g : B → C) (P : Bor A → B
 seen_through f g P None r h k = ap (option_map g) h
 seen_through f g P (Some x) None h k = absurd h
 seen_through f g P (Some x) (Some y) h k = ap Some (k x y h)
-
--- the questions of one segment more: whether the prefix fits, whether there is a place, whether it is above the last
-module _ (fits room above : Bool) (fitted : None ≡ unless fits 2) where
-  pub no_room : (n : ℕ) → Some n ≡ unless room 2 → Some n ≡ unless_either (fits && room) 2 above 3
-  no_room n e = let f = cases_Bool fits in let r = cases_Bool room in grind arith
-
-  pub not_above : None ≡ unless room 2 → above ≡ false → Some 3 ≡ unless_either (fits && room) 2 above 3
-  not_above e a = let f = cases_Bool fits in let r = cases_Bool room in grind arith
-
-  pub all_asked : None ≡ unless room 2 → above ≡ true → None ≡ unless_either (fits && room) 2 above 3
-  all_asked e a = let f = cases_Bool fits in let r = cases_Bool room in grind arith
