@@ -23,7 +23,7 @@ pub(crate) fn is_under(entry: &Compaction, number: u32) -> bool
 pub(crate) fn runs_under(draft: &Draft, id: Ulid, number: u32) -> bool
     ensures { result ≡ runs_at number (draft_of draft.now).entries (id-number id) }
 {
-    draft.get(id).is_some_and(|entry| matches!(entry.status, CompactionStatus::Running)
+    draft.get(id).is_some_and(|entry| entry.status == CompactionStatus::Running
         && is_under(&entry, number))
 }
 
@@ -31,7 +31,7 @@ pub(crate) fn runs_under(draft: &Draft, id: Ulid, number: u32) -> bool
 pub(crate) fn is_unclaimed(entry: &Compaction) -> bool
     ensures { result ≡ unclaimed (entry_of entry.now) }
 {
-    matches!(entry.status, CompactionStatus::Scheduled)
+    entry.status == CompactionStatus::Scheduled
         && entry.spec.destination().is_some()
         && entry.worker.is_none()
 }
