@@ -1,6 +1,6 @@
-use Rattle.std.proofs.Common.{◌≡◌, ℕ, ◌+◌, ◌≤◌, true, List, [], map, length, None, Result, sym, refl, ap, ◌∙◌, subst, arith, true-eqb, false-eqb}
+use Rattle.std.proofs.Common.{◌≡◌, ℕ, ◌+◌, ◌≤◌, true, List, [], map, length, None, Result, sym, ap, ◌∙◌, subst, arith, false-eqb}
 use Rattle.std.specs.List.{AllByRecursion}
-use Rattle.std.proofs.lemmas.List.{length-map, nil_from_length}
+use Rattle.std.proofs.lemmas.List.{length-map}
 use Rattle.table.specs.Tables.{holds}
 use Rattle.table.specs.Counted.{items_of}
 use Rattle.compactions.specs.Entries.{Entry}
@@ -14,12 +14,12 @@ use Rattle.worker_steps.specs.Tracking.{Tracked}
 use Rattle.worker_steps.specs.Looks.{held_after}
 use Rattle.worker_steps.specs.Faults.{fault, store_failed, claim}
 use Rattle.worker_steps.specs.Effects.{Effect, Turn, ends, on_update}
-use Rattle.worker_steps.specs.Claims.{Claimed, none_chosen, landed_at, broken, walked, claim_draft, joined, list_if_faulted, claim_attempt}
+use Rattle.worker_steps.specs.Claims.{Claimed, landed_at, broken, walked, claim_draft, joined, list_if_faulted, claim_attempt}
 use Rattle.worker_steps.proofs.Walks.{chosen_held}
 use Rattle.worker.specs.Claims.{chosen_of}
-use Rattle.worker.specs.Polls.{turn_end, counts_of}
+use Rattle.worker.specs.Polls.{counts_of}
 use Rattle.worker.specs.Worker.{Worker}
-use Rattle.worker.proofs.Attempts.{claim_during, was_record, attempt_none, still_room, still_tracked, chosen_pending, Sent, sent, answer_by, counts_by}
+use Rattle.worker.proofs.Attempts.{claim_during, was_record, still_room, still_tracked, chosen_pending, Sent, sent, counts_by}
 use Rattle.worker.proofs.Drafts.{draft_ascends, draft_few}
 use Rattle.worker.proofs.compaction_worker.CompactionWorker.attempt_claim.Given as given
 use Rattle.worker.proofs.compaction_worker.CompactionWorker.attempt_claim.Goals as goal
@@ -61,20 +61,8 @@ tracked_at g c =
     let m : c.choose-stopped.new.self.settings.maximum ≡ c.args.self.now.settings.maximum = ap (λ s. s.maximum) (same_settings g c) in
     rw m (still_tracked c.args.self.now.settings.number c.args.capacity c.args.self.now.settings.maximum _ _ _ (draft_of d) _ (looked_at g c) c.choose-stopped.ensures.chosen c.choose-stopped.ensures.held (draft_ascends d) c.requires.room c.requires.tracked)
 
-pub returns-then-is_empty : goal.returns-then-is_empty
-returns-then-is_empty g c =
-    let b = (goal.at.returns-then-is_empty g c).After-choose-stopped in
-    let none : chosen_of c.choose-stopped.result ≡ [] = ap (map entry_of) (sym c.as_slice.ensures ∙ nil_from_length _ (true-eqb _ 0 c.if-is_empty.ensures)) in
-    let e = λ (ms : List (Result Manifest ℕ)). attempt_none c.args.self.now.settings c.args.capacity c.args.attempt c.args.self.now.held (g.S.CompactionsStore.meaning c.args.store.now) c.args.clock.now ms _ _ c.read_for.ensures.held c.read_for.ensures.store _ (found g b) _ _ _ c.choose-stopped.ensures.chosen c.choose-stopped.ensures.stopped c.choose-stopped.ensures.held none in
-    record {
-      answer = λ ms. sym (ap (λ x. turn_end x.result) (e ms));
-      counts = counts_by (attempt g b) (ends none_chosen) _ (λ ms. ap (λ x. x.result) (e ms)) (λ ms. ap (λ x. x.stopped) (e ms)) (counts_of c.args.counts.now) _ _ c.requires.fresh.0 c.requires.fresh.1;
-      after = λ ms. sym (ap (λ x. x.state) (e ms));
-      settings = same_settings g b;
-      pending = tt;
-      room = room_at g b;
-      few = omega (arith, c.requires.few.0, c.choose-stopped.ensures.few);
-    }
+pub returns-then-is_empty-clause-room : goal.returns-then-is_empty-clause-room
+returns-then-is_empty-clause-room g c = room_at g (goal.at.returns-then-is_empty-clause-room g c).After-choose-stopped
 
 -- the entries that are marked are the chosen ones
 marked_are : (g : given.Over) (c : After-choose-stopped g) (xs : List _) → xs ≡ items_of c.choose-stopped.result.entries → map entry_of xs ≡ (walked (draft_of c.in_ok-draft.draft).entries c.args.capacity c.read_for.new.self.held.table c.read_for.new.self.held.jobs).chosen
@@ -141,23 +129,25 @@ returns-in-Ok-Conflict-clause-room g c =
     let b = (goal.at.After-update g u).After-choose-stopped in
     room_at g b
 
-pub returns-in-Err : goal.returns-in-Err
-returns-in-Err g c =
-    let u = (goal.at.returns-in-Err g c).After-update in
+pub returns-in-Err-clause-counts : goal.returns-in-Err-clause-counts
+returns-in-Err-clause-counts g c =
+    let u = (goal.at.returns-in-Err-clause-counts g c).After-update in
     let b = (goal.at.After-update g u).After-choose-stopped in
     let cs = chosen_of c.choose-stopped.result in
     let f = store-fault-of c.in-Err.fault in
     let said = c.in-Err.ensures.answer in
+    counts_by (attempt g b) (ends (broken (fault (store_failed f) claim None c.args.attempt) cs)) _ (λ ms. (sent_at g u (unwritten f) said ms).result) (λ ms. (sent_at g u (unwritten f) said ms).stopped) (counts_of c.args.counts.now) _ _ (how_many g u) (how_many g u)
+
+pub returns-in-Err-clause-after : goal.returns-in-Err-clause-after
+returns-in-Err-clause-after g c =
+    let u = (goal.at.returns-in-Err-clause-after g c).After-update in
     let h = c.choose-stopped.new.self.held in
     let kept = c.leave_all.ensures.held ∙ ap (λ es. with_left h (joined es h.left)) c.of-in-Err.ensures in
+    λ ms. ap (λ x. state x (g.S.CompactionsStore.meaning c.update.new.self) c.stamp.new.self ms) kept ∙ sym (sent_at g u (unwritten (store-fault-of c.in-Err.fault)) c.in-Err.ensures.answer ms).state
+
+pub returns-in-Err-clause-room : goal.returns-in-Err-clause-room
+returns-in-Err-clause-room g c =
+    let u = (goal.at.returns-in-Err-clause-room g c).After-update in
     let max = ap (λ s. s.maximum) c.leave_all.ensures.settings in
     let same = ap (λ h. length h.table) c.leave_all.ensures.held in
-    record {
-      answer = answer_by (attempt g b) (ends (broken (fault (store_failed f) claim None c.args.attempt) cs)) _ (λ ms. (sent_at g u (unwritten f) said ms).result) (λ ms. (sent_at g u (unwritten f) said ms).stopped) _ refl;
-      counts = counts_by (attempt g b) (ends (broken (fault (store_failed f) claim None c.args.attempt) cs)) _ (λ ms. (sent_at g u (unwritten f) said ms).result) (λ ms. (sent_at g u (unwritten f) said ms).stopped) (counts_of c.args.counts.now) _ _ (how_many g u) (how_many g u);
-      after = λ ms. ap (λ x. state x (g.S.CompactionsStore.meaning c.update.new.self) c.stamp.new.self ms) kept ∙ sym (sent_at g u (unwritten f) said ms).state;
-      settings = c.leave_all.ensures.settings ∙ same_settings g b;
-      pending = tt;
-      room = omega (arith, room_at g b, max, same);
-      few = omega (arith, c.requires.few.0, c.choose-stopped.ensures.few);
-    }
+    omega (arith, room_at g (goal.at.After-update g u).After-choose-stopped, max, same)

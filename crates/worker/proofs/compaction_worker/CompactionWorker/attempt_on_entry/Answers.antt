@@ -8,7 +8,6 @@ use Rattle.stores.specs.Records.{entry_id, with_entries}
 use Rattle.stores.specs.Stores.{update}
 use Rattle.stores.specs.Meanings.{draft_of}
 use Rattle.worker_steps.specs.Faults.{Work, work_of, fault, store_failed}
-use Rattle.worker_steps.specs.States.{state}
 use Rattle.worker_steps.specs.Effects.{on_update}
 use Rattle.worker_steps.specs.Releases.{written, stuck}
 use Rattle.worker.specs.Settling.{if_own}
@@ -32,21 +31,16 @@ hand_in-requires g c =
     ∙ ap (λ i. holds entry_id i es) (x.same_id _ _ _ ∙ own_id _ _ es _ o)
     ∙ own_held _ _ es _ o
 
-pub returns : goal.returns
-returns g c =
-    let o = own g (goal.at.returns g c).In-Some in
+pub returns-clause-answer : goal.returns-clause-answer
+returns-clause-answer g c =
+    let o = own g (goal.at.returns-clause-answer g c).In-Some in
     let x = g.W.EntryWork.steps c.args.work.now in
     let s = c.args.self.now.settings in
     let i = number c.args.id in
     let r = draft_of c.in_ok-draft.draft in
     let st₁ = g.S.CompactionsStore.meaning c.read_for.new.store in
-    let h₁ = c.read_for.new.self.held in
     let n : c.self.inside.number ≡ s.number = ap (λ (x : Worker _). x.settings.number) c.self.view_is ∙ ap (λ s. s.number) c.read_for.ensures.settings in
     let made = c.changed-changed.ensures.value ∙ ap (λ m. x.changed m c.args.clock.now (entry_of c.in-Some.existing)) n in
     let e = λ (ms : List (Result Manifest ℕ)). entry_found x s i c.args.attempt c.args.self.now.held (g.S.CompactionsStore.meaning c.args.store.now) c.args.clock.now ms _ st₁ c.read_for.ensures.held c.read_for.ensures.store r (was_record (record { work = c.work.result; id = Some c.args.id; attempt = c.args.attempt }) _ _ c.in_ok-draft.ensures.answer) _ o in
     let put_in = ap (λ (y : Entry). update (with_entries r (put entry_id y r.entries)) st₁) made in
-    record {
-      answer = λ ms. c.hand_in.ensures.answer ∙ ap (λ u. on_update u.answer written (λ f. stuck (fault (store_failed f) (work_of c.work.result) (Some i) c.args.attempt))) put_in ∙ ap (λ (k : Work). on_update (update (with_entries r (put entry_id (x.changed s.number c.args.clock.now (entry_of c.in-Some.existing)) r.entries)) st₁).answer written (λ f. stuck (fault (store_failed f) k (Some i) c.args.attempt))) c.work.ensures ∙ sym (ap (λ y. y.result) (e ms));
-      after = λ ms. ap (λ u. state h₁ u c.changed-changed.new.clock ms) (c.hand_in.ensures.after ∙ ap (λ u. u.after) put_in) ∙ ap (λ k. state h₁ (update (with_entries r (put entry_id (x.changed s.number c.args.clock.now (entry_of c.in-Some.existing)) r.entries)) st₁).after k ms) c.changed-changed.ensures.clock ∙ sym (ap (λ y. y.state) (e ms));
-      settings = c.read_for.ensures.settings;
-    }
+    λ ms. c.hand_in.ensures.answer ∙ ap (λ u. on_update u.answer written (λ f. stuck (fault (store_failed f) (work_of c.work.result) (Some i) c.args.attempt))) put_in ∙ ap (λ (k : Work). on_update (update (with_entries r (put entry_id (x.changed s.number c.args.clock.now (entry_of c.in-Some.existing)) r.entries)) st₁).answer written (λ f. stuck (fault (store_failed f) k (Some i) c.args.attempt))) c.work.ensures ∙ sym (ap (λ y. y.result) (e ms))

@@ -1,14 +1,13 @@
-use Rattle.std.proofs.Common.{◌≡◌, ℕ, ◌-◌, ◌≤◌, List, [], length, None, Ok, Result, sym, refl, ap, ◌∙◌, subst, arith}
+use Rattle.std.proofs.Common.{◌≡◌, ℕ, ◌-◌, ◌≤◌, List, [], length, Ok, Result, sym, refl, ap, ◌∙◌, subst, arith}
 use Rattle.std.proofs.lemmas.Result.{err_from_is_err_and}
 use Rattle.compactions.specs.Trees.{Manifest}
-use Rattle.worker_steps.specs.Faults.{fault, not_landed, claim}
 use Rattle.worker_steps.specs.States.{State, state}
 use Rattle.worker_steps.specs.Tracking.{Tracked}
 use Rattle.worker_steps.specs.Effects.{Effect}
 use Rattle.worker_steps.specs.Claims.{Claimed, claiming}
 use Rattle.worker.specs.Claims.{waiting}
-use Rattle.worker.specs.Polls.{Counts, counts_of, ClaimEnd, none, landed, faulted, conflict, turn_of, claim_end, counted_claim, PendingTurn}
-use Rattle.worker.proofs.Claiming.{claiming_none, Ended, ended, gave_up, one_more, not_none, not_landed_end, not_faulted}
+use Rattle.worker.specs.Polls.{Counts, counts_of, ClaimEnd, none, landed, conflict, turn_of, claim_end, counted_claim, PendingTurn}
+use Rattle.worker.proofs.Claiming.{Ended, ended, one_more, not_none, not_landed_end, not_faulted}
 use Rattle.worker.specs.Worker.{Worker}
 use Rattle.worker.proofs.compaction_worker.CompactionWorker.claim.Given as given
 use Rattle.worker.proofs.compaction_worker.CompactionWorker.claim.Goals as goal
@@ -21,26 +20,6 @@ taken_at g c = rw (← c.self.view_is) c.capacity-capacity.ensures.value
 -- nothing is pending at first
 tracked_first : (g : given.Over) (c : After-capacity-capacity g) → Tracked c.args.self.now.settings.maximum [] c.args.self.now.held.table c.args.self.now.held.left
 tracked_first g c = rw (← c.self.view_is) c.capacity-capacity.ensures.tracked
-
-pub loop-attempt-init : goal.loop-attempt-init
-loop-attempt-init g c =
-    let b = tracked_first g (goal.at.loop-attempt-init g c).After-capacity-capacity in (
-      claiming_none _ _ _ _ _ (counts_of c.args.counts.now) c.requires.0 c.requires.1.0 c.requires.1.1,
-      refl,
-      omega (arith, taken_at g (goal.at.loop-attempt-init g c).After-capacity-capacity, b.room),
-      b,
-    )
-
-pub attempt_claim-requires : goal.attempt_claim-requires
-attempt_claim-requires g c =
-    let i = c.loop-attempt.invariant.0 in
-    record {
-      small = omega (arith, c.capacity-capacity.ensures.value, c.self.invariant.1.1);
-      tracked = c.loop-attempt.invariant.3;
-      room = c.loop-attempt.invariant.2;
-      few = (i.few, omega (arith, c.loop-attempt-test.true, c.self.invariant.1.0));
-      fresh = (i.claimed, i.left);
-    }
 
 -- a claim that ended, by the capacity that it took
 module _ (g : given.Over) (c : After-capacity-capacity g) (e : ClaimEnd) (n : Counts) (v : List (Result Manifest ℕ) → State) where
@@ -99,10 +78,3 @@ loop-attempt-preserved g c =
       said.room,
       subst (λ t. PendingTurn c.attempt_claim.new.self.settings.maximum c.attempt_claim.new.self.held (Ok t)) c.in-Conflict.is said.pending,
     )
-
-pub returns : goal.returns
-returns g c =
-    let b = (goal.at.returns g c).After-loop-attempt in
-    let limit = ap (λ (x : Worker _). x.settings.limit) c.self.view_is in
-    let z = at_capacity g (goal.at.After-loop-attempt g b).After-capacity-capacity _ _ _ (gave_up c.loop-attempt.invariant.0 (omega (arith, limit, c.loop-attempt-test.false))) in
-    record { answer = λ ms. ap (λ a. faulted (fault not_landed claim None a)) limit ∙ z.answer ms; counts = z.counts; after = z.after; settings = c.loop-attempt.invariant.1; pending = tt }

@@ -1,4 +1,4 @@
-use Rattle.std.proofs.Common.{◌≡◌, ◌+◌, ◌∷◌, map, refl, ap, ◌∙◌}
+use Rattle.std.proofs.Common.{◌≡◌, ◌∷◌, map, refl, ap, ◌∙◌}
 use Rattle.table.specs.Tables.{put}
 use Rattle.compactions.specs.Meanings.{entry_of}
 use Rattle.stores.specs.Records.{entry_id}
@@ -7,16 +7,12 @@ use Rattle.worker_steps.specs.Tracking.{Tracked}
 use Rattle.worker_steps.specs.Claims.{joined}
 use Rattle.worker_steps.proofs.Tracking.{only_first}
 use Rattle.worker.specs.Claims.{waiting}
-use Rattle.worker.specs.Polls.{counts_of}
-use Rattle.worker.proofs.Coming.{taken_first, few_wait}
+use Rattle.worker.proofs.Coming.{taken_first}
 use Rattle.worker.proofs.Leaving.{left_tracked}
-use Rattle.worker.proofs.Dispatching.{dispatching_none, dispatching_more, stuck_pending, dispatched_stuck, dispatched_stuck_after}
+use Rattle.worker.proofs.Dispatching.{dispatching_more, stuck_pending, dispatched_stuck_after}
 use Rattle.worker.proofs.compaction_worker.CompactionWorker.dispatch.Given as given
 use Rattle.worker.proofs.compaction_worker.CompactionWorker.dispatch.Goals as goal
 use Rattle.worker.proofs.compaction_worker.CompactionWorker.dispatch.Goals.{After-settle, In-Err}
-
-pub loop-claim-init : goal.loop-claim-init
-loop-claim-init g c = (dispatching_none _ _ _ _ _ _ _ (counts_of c.args.counts.now) (few_wait c.args.claims) c.requires.pending c.requires.fresh.0 c.requires.fresh.1.0 c.requires.fresh.1.1, refl)
 
 -- the claim that was taken, before those that wait
 first : (g : given.Over) (c : After-settle g) → waiting c.loop-claim.claims ≡ entry_of c.in-Some.claim.entry ∷ waiting c.take.new.self
@@ -50,9 +46,9 @@ leave_all-requires g c =
     let max = ap (λ s. s.maximum) c.leave.ensures.settings in
     rw max (left_tracked c.settle.new.self.held c.leave.new.self.held (entry_of c.in-Some.claim.entry) _ _ _ refl i c.leave.ensures.held (pending_at g b))
 
-pub returns-in-Err : goal.returns-in-Err
-returns-in-Err g c =
-    let b = (goal.at.returns-in-Err g c).In-Err in
+pub returns-in-Err-clause-after : goal.returns-in-Err-clause-after
+returns-in-Err-clause-after g c =
+    let b = (goal.at.returns-in-Err-clause-after g c).In-Err in
     let a = (goal.at.In-Err g b).After-settle in
     let e = entry_of c.in-Some.claim.entry in
     let es = waiting c.take.new.self in
@@ -61,10 +57,4 @@ returns-in-Err g c =
     let st = g.S.CompactionsStore.meaning c.settle.new.store in
     let i = c.spend.ensures ∙ ap (λ x. x.id) one.back in
     let held = c.leave_all.ensures.held ∙ ap (λ x. with_left x (joined es x.left)) (c.leave.ensures.held ∙ ap (λ j. with_left h (put self_id j h.left)) i) in
-    let frame = c.loop-claim.invariant.0.frame in
-    record {
-      answer = dispatched_stuck e es _ _ _ _ _ _ c.loop-claim.invariant.0 (first g a) c.loop-claim.invariant.1 one _ (ap (λ n. n + 1) c.count.ensures);
-      after = λ ms. ap (λ x. state x st c.settle.new.clock ms) held ∙ dispatched_stuck_after e es _ _ _ _ _ _ c.loop-claim.invariant.0 (first g a) c.loop-claim.invariant.1 one ms;
-      claimed = (ap (λ x. x.claimed) (one.counts ∙ frame), ap (λ x. x.stopped) (one.counts ∙ frame));
-      settings = c.leave_all.ensures.settings ∙ c.leave.ensures.settings ∙ c.settle.ensures.settings ∙ c.loop-claim.invariant.1;
-    }
+    λ ms. ap (λ x. state x st c.settle.new.clock ms) held ∙ dispatched_stuck_after e es _ _ _ _ _ _ c.loop-claim.invariant.0 (first g a) c.loop-claim.invariant.1 one ms

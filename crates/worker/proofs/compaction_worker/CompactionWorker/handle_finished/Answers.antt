@@ -13,10 +13,9 @@ use Rattle.worker.specs.Worker.{Worker}
 use Rattle.worker.proofs.Walks.{at_false}
 use Rattle.worker.proofs.compaction_worker.CompactionWorker.handle_finished.Goals as goal
 
-pub returns-then-not-strike_row : goal.returns-then-not-strike_row
-returns-then-not-strike_row g c =
+pub returns-then-not-strike_row-clause-after : goal.returns-then-not-strike_row-clause-after
+returns-then-not-strike_row-clause-after g c =
     let w = c.self.inside in
-    let m = g.E.CompactionExecutor in
     let i = number c.args.id in
     let h = c.args.self.now.held in
     let st = g.S.CompactionsStore.meaning c.args.store.now in
@@ -24,11 +23,7 @@ returns-then-not-strike_row g c =
     let none : holds row_id i w.owned.table ≡ false = sym c.if-not-strike_row.ensures.value in
     let gone = λ (ms : List (Result Manifest ℕ)). at_false {X = Effect Noticed} (holds row_id i h.table) _ (effect_free entry_dropped (state h st ck ms)) (sym (ap (λ (x : Worker _). holds row_id i x.held.table) c.self.view_is) ∙ none) in
     let kept : c.strike_row.new.self ≡ w.owned = c.strike_row.ensures.after ∙ ap (with_table w.owned) (strike_missing row_id i w.owned.table none) in
-    record {
-      answer = λ ms. sym (ap (λ x. x.result) (gone ms));
-      after = λ ms. ap (λ (o : Owned). state (record { loaded = w.loaded; table = o.table; left = o.left; jobs = (m.jobs w.executor).list }) st ck ms) kept ∙ ap (λ (x : Worker _). state x.held st ck ms) c.self.view_is ∙ sym (ap (λ x. x.state) (gone ms));
-      settings = ap (λ (o : Owned). record { number = w.number; maximum = o.maximum; limit = w.limit; places = m.places.count }) kept ∙ ap (λ (x : Worker _). x.settings) c.self.view_is;
-    }
+    λ ms. ap (λ (o : Owned). state (record { loaded = w.loaded; table = o.table; left = o.left; jobs = (g.E.CompactionExecutor.jobs w.executor).list }) st ck ms) kept ∙ ap (λ (x : Worker _). state x.held st ck ms) c.self.view_is ∙ sym (ap (λ x. x.state) (gone ms))
 
 pub leave-requires : goal.leave-requires
 leave-requires g c =

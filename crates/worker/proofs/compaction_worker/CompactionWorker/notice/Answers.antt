@@ -10,8 +10,8 @@ use Rattle.worker.specs.Reads.{opened_of}
 use Rattle.worker.proofs.compaction_worker.CompactionWorker.notice.Goals as goal
 use Rattle.worker_steps.proofs.Looking.{look_jobs}
 
-pub returns : goal.returns
-returns g c =
+pub returns-clause-steps : goal.returns-clause-steps
+returns-clause-steps g c =
     let w = c.args.self.now in
     let s = w.settings in
     let s₁ = c.ensure_loaded.new.self.settings in
@@ -34,11 +34,8 @@ returns g c =
     ∙ ap (λ x. noticing s (Some n) x) (looked ms)
     ∙ ap (λ o. notice_opened s o (Some n) (first_look s.number (state h st ck ms)).state) (found ms) in
     record {
-      steps = record {
-        notice = Some n;
-        running = λ ms. sym (ap (λ (j : List _). names_running j (Some n)) (ap (λ x. x.held.jobs) (looked ms) ∙ look_jobs s.number (state h st ck ms))) ∙ sym (ap (λ (x : Worker _). names_running x.held.jobs (Some n)) c.self.view_is) ∙ took.running;
-        answers = λ ms. c.handle.ensures.answer ms ∙ ap (λ x. x.result) (whole ms);
-        leaves = λ ms. c.handle.ensures.after ms ∙ ap (λ x. x.state) (whole ms);
-      };
-      settings = c.handle.ensures.settings ∙ ap (λ (x : Worker _). x.settings) c.self.view_is ∙ same;
+      notice = Some n;
+      running = λ ms. sym (ap (λ (j : List _). names_running j (Some n)) (ap (λ x. x.held.jobs) (looked ms) ∙ look_jobs s.number (state h st ck ms))) ∙ sym (ap (λ (x : Worker _). names_running x.held.jobs (Some n)) c.self.view_is) ∙ took.running;
+      answers = λ ms. c.handle.ensures.answer ms ∙ ap (λ x. x.result) (whole ms);
+      leaves = λ ms. c.handle.ensures.after ms ∙ ap (λ x. x.state) (whole ms);
     }

@@ -32,8 +32,8 @@ not_stuck : (x : Settled) (f : Fault) → settled_of (Ok x) ≡ stuck f → ⊥
 not_stuck Written f e = let z : ◌≡◌ {A = ℕ} 0 1 = cc in omega arith
 not_stuck Dropped f e = let z : ◌≡◌ {A = ℕ} 0 1 = cc in omega arith
 
-pub returns-in-Ok : goal.returns-in-Ok
-returns-in-Ok g c =
+pub returns-in-Ok-clause-step : goal.returns-in-Ok-clause-step
+returns-in-Ok-clause-step g c =
     let s = c.args.self.now.settings in
     let m = manifest_of c.args.manifest.now in
     let e = entry_of c.args.claim.entry in
@@ -43,14 +43,11 @@ returns-in-Ok g c =
     let yes' = kept_none (may_run s.places (job_args e m) h.jobs) e c.in-Ok.ensures.answer in
     let held = c.in-Ok.ensures.held ∙ ap (λ b. cond b (with_started e (job_args e m) h) h) yes' in
     record {
-      step = record {
-        result = started_result s m e h st ck yes' _ held (counts_of c.args.counts.now);
-        after = started_after s m e h st ck yes' _ held;
-        tracked = started_tracked s m e h st ck yes' _ held;
-        frame = refl;
-        few = omega arith;
-      };
-      settings = c.start.ensures.settings;
+      result = started_result s m e h st ck yes' _ held (counts_of c.args.counts.now);
+      after = started_after s m e h st ck yes' _ held;
+      tracked = started_tracked s m e h st ck yes' _ held;
+      frame = refl;
+      few = omega arith;
     }
 
 module _ (g : given.Over) (c : After-release_claim g) where
@@ -77,9 +74,9 @@ module _ (g : given.Over) (c : After-release_claim g) where
     left_at : state c.release_claim.new.self.held (g.S.CompactionsStore.meaning c.release_claim.new.store) c.release_claim.new.clock ms ≡ (releasing c.args.self.now.settings (entry_of c.args.claim.entry).id (state c.args.self.now.held (g.S.CompactionsStore.meaning c.args.store.now) c.args.clock.now ms)).state
     left_at = c.release_claim.ensures.after ms ∙ ap (λ x. x.state) whole
 
-pub returns-in-Ok-release_claim : goal.returns-in-Ok-release_claim
-returns-in-Ok-release_claim g c =
-    let b = (goal.at.returns-in-Ok-release_claim g c).After-release_claim in
+pub returns-in-Ok-release_claim-clause-step : goal.returns-in-Ok-release_claim-clause-step
+returns-in-Ok-release_claim-clause-step g c =
+    let b = (goal.at.returns-in-Ok-release_claim-clause-step g c).After-release_claim in
     let s = c.args.self.now.settings in
     let m = manifest_of c.args.manifest.now in
     let e = entry_of c.args.claim.entry in
@@ -88,19 +85,16 @@ returns-in-Ok-release_claim g c =
     let ck = c.args.clock.now in
     let said = λ (ms : List (Result Manifest ℕ)). sym (ap settled_of c.in-Ok-release_claim.is) ∙ answered g b ms in
     record {
-      step = record {
-        result = let_go_result s m e h st ck (refused g b).0 _ _ _ _ said (left_at g b) (not_stuck c.in-Ok-release_claim.field-0) (counts_of c.args.counts.now);
-        after = let_go_after s m e h st ck (refused g b).0 _ _ _ _ said (left_at g b) (not_stuck c.in-Ok-release_claim.field-0);
-        tracked = λ max P t. released_tracked s m e h st ck (refused g b).0 _ _ _ _ said (left_at g b) [] max P (settle t);
-        frame = refl;
-        few = omega arith;
-      };
-      settings = c.release_claim.ensures.settings ∙ c.start.ensures.settings;
+      result = let_go_result s m e h st ck (refused g b).0 _ _ _ _ said (left_at g b) (not_stuck c.in-Ok-release_claim.field-0) (counts_of c.args.counts.now);
+      after = let_go_after s m e h st ck (refused g b).0 _ _ _ _ said (left_at g b) (not_stuck c.in-Ok-release_claim.field-0);
+      tracked = λ max P t. released_tracked s m e h st ck (refused g b).0 _ _ _ _ said (left_at g b) [] max P (settle t);
+      frame = refl;
+      few = omega arith;
     }
 
-pub returns-in-Err-release_claim : goal.returns-in-Err-release_claim
-returns-in-Err-release_claim g c =
-    let b = (goal.at.returns-in-Err-release_claim g c).After-release_claim in
+pub returns-in-Err-release_claim-clause-step : goal.returns-in-Err-release_claim-clause-step
+returns-in-Err-release_claim-clause-step g c =
+    let b = (goal.at.returns-in-Err-release_claim-clause-step g c).After-release_claim in
     let s = c.args.self.now.settings in
     let m = manifest_of c.args.manifest.now in
     let e = entry_of c.args.claim.entry in
@@ -110,12 +104,9 @@ returns-in-Err-release_claim g c =
     let f = fault_of c.in-Err-release_claim.fault in
     let said = λ (ms : List (Result Manifest ℕ)). sym (ap settled_of c.in-Err-release_claim.is) ∙ answered g b ms in
     record {
-      step = record {
-        back = (refused g b).1;
-        counts = refl;
-        result = stuck_result s m e h st ck (refused g b).0 _ _ _ _ said (left_at g b) f refl;
-        after = stuck_after s m e h st ck (refused g b).0 _ _ _ _ said (left_at g b) f refl;
-        tracked = released_tracked s m e h st ck (refused g b).0 _ _ _ _ said (left_at g b) [];
-      };
-      settings = c.release_claim.ensures.settings ∙ c.start.ensures.settings;
+      back = (refused g b).1;
+      counts = refl;
+      result = stuck_result s m e h st ck (refused g b).0 _ _ _ _ said (left_at g b) f refl;
+      after = stuck_after s m e h st ck (refused g b).0 _ _ _ _ said (left_at g b) f refl;
+      tracked = released_tracked s m e h st ck (refused g b).0 _ _ _ _ said (left_at g b) [];
     }

@@ -4,12 +4,12 @@ use Rattle.worker_steps.specs.States.{state}
 use Rattle.worker_steps.specs.Completions.{completing}
 use Rattle.worker.proofs.compaction_worker.CompactionWorker.write_compacted.Goals as goal
 
-pub returns : goal.returns
-returns g c =
+pub returns-clause-answer : goal.returns-clause-answer
+returns-clause-answer g c =
     let w = c.args.self.now in
-    let st = g.S.CompactionsStore.meaning c.args.store.now in
-    record {
-      answer = λ ms. c.work_on_entry.ensures.answer ms ∙ ap (λ outs. (completing w.settings (number c.args.id) outs (state w.held st c.args.clock.now ms)).result) c.ssts_of.ensures;
-      after = λ ms. c.work_on_entry.ensures.after ms ∙ ap (λ outs. (completing w.settings (number c.args.id) outs (state w.held st c.args.clock.now ms)).state) c.ssts_of.ensures;
-      settings = c.work_on_entry.ensures.settings;
-    }
+    λ ms. c.work_on_entry.ensures.answer ms ∙ ap (λ outs. (completing w.settings (number c.args.id) outs (state w.held (g.S.CompactionsStore.meaning c.args.store.now) c.args.clock.now ms)).result) c.ssts_of.ensures
+
+pub returns-clause-after : goal.returns-clause-after
+returns-clause-after g c =
+    let w = c.args.self.now in
+    λ ms. c.work_on_entry.ensures.after ms ∙ ap (λ outs. (completing w.settings (number c.args.id) outs (state w.held (g.S.CompactionsStore.meaning c.args.store.now) c.args.clock.now ms)).state) c.ssts_of.ensures

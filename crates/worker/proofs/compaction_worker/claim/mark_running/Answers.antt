@@ -1,5 +1,4 @@
-use Rattle.std.proofs.Common.{◌≡◌, ◌+◌, true, ◌∷◌, map, drop, refl, ap, ◌∙◌}
-use Rattle.std.proofs.lemmas.List.{drop_all}
+use Rattle.std.proofs.Common.{◌≡◌, ◌+◌, true, ◌∷◌, map, drop, ap, ◌∙◌}
 use Rattle.table.specs.Tables.{holds, put}
 use Rattle.compactions.specs.Meanings.{entry_of}
 use Rattle.stores.specs.Records.{entry_id, with_entries}
@@ -8,9 +7,6 @@ use Rattle.worker.proofs.Drafts.{marking_more, inserted}
 use Rattle.worker.proofs.Coming.{coming}
 use Rattle.worker.proofs.compaction_worker.claim.mark_running.Goals as goal
 use Rattle.worker.proofs.compaction_worker.claim.mark_running.Goals.{After-insert}
-
-pub loop-entry-init : goal.loop-entry-init
-loop-entry-init c = record { whole = refl; held = c.requires }
 
 -- the entry at hand is the first of those to come
 at_hand : (c : After-insert) → map entry_of (drop c.loop-entry.entry-index c.args.chosen.now) ≡ entry_of c.entry-item.result ∷ map entry_of (drop (c.loop-entry.entry-index + 1) c.args.chosen.now)
@@ -24,6 +20,3 @@ loop-entry-preserved c =
     marking_more (draft_of c.insert.new.self) m
     (inserted c.loop-entry.draft c.insert.new.self c.claimed_by.result c.insert.result held c.insert.ensures.value c.insert.ensures.after
     ∙ ap (λ e. with_entries (draft_of c.loop-entry.draft) (put entry_id e (draft_of c.loop-entry.draft).entries)) claimed)
-
-pub returns : goal.returns
-returns c = (rw (ap (map entry_of) (drop_all c.loop-entry.entry-index c.args.chosen.now c.loop-entry-test.false)) at c.loop-entry.invariant).whole
