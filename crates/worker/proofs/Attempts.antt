@@ -1,19 +1,19 @@
 -- One attempt to claim, step by step.
-use Rattle.std.proofs.Common.{◌≡◌, ℕ, ◌+◌, ◌≤◌, true, List, [], ◌∷◌, map, length, None, Ok, Err, Result, sym, refl, ap, ◌∙◌, arith}
+use Rattle.std.proofs.Common.{◌≡◌, ℕ, ◌+◌, ◌≤◌, true, List, [], ◌∷◌, map, length, None, Ok, Result, sym, refl, ap, ◌∙◌, arith}
 use Rattle.compactions.specs.Entries.{Entry}
 use Rattle.compactions.specs.Trees.{Manifest}
 use Rattle.stores.specs.Records.{Record}
 use Rattle.stores.specs.Stores.{Store, ReadAnswer, got, absent, unread, read, UpdateAnswer, update}
 use Rattle.executors.specs.Clocks.{Readings, reading, passed, stamped}
-use Rattle.worker_steps.specs.Faults.{claim, Fault, fault, store_failed}
+use Rattle.worker_steps.specs.Faults.{claim, fault, store_failed}
 use Rattle.worker_steps.specs.States.{Settings, Held, with_jobs, State, state}
-use Rattle.worker_steps.specs.Effects.{Effect, effect_free, Turn, ends, on_update}
+use Rattle.worker_steps.specs.Effects.{Effect, Turn, on_update}
 use Rattle.worker_steps.specs.Looks.{held_after, on_read}
-use Rattle.worker_steps.specs.Claims.{walked, Claimed, none_chosen, landed_at, broken, broken_bare, claim_draft, list_if_faulted, claim_write, claim_chosen, claim_walk, claim_attempt}
+use Rattle.worker_steps.specs.Claims.{walked, Claimed, landed_at, broken, broken_bare, claim_draft, list_if_faulted, claim_write, claim_chosen, claim_walk, claim_attempt}
 use Rattle.worker_steps.specs.declared.fault.During.{During}
 use Rattle.worker_steps.specs.declared.fault.Work.TheVariants as works
 use Rattle.worker.specs.Reads.{record_for}
-use Rattle.worker.specs.Polls.{Counts, ClaimEnd, turn_end, turn_claimed, turn_left, counted_turn}
+use Rattle.worker.specs.Polls.{Counts, turn_claimed, turn_left, counted_turn}
 use Rattle.table.specs.Tables.{Ascending, holds}
 use Rattle.stores.specs.Records.{entry_id}
 use Rattle.worker_steps.specs.States.{self_id}
@@ -40,15 +40,7 @@ was_record d (got x) r e = cc
 was_record d absent r e = cc
 was_record d (unread f) r e = cc
 
-was_fault : (a : ℕ) (ans : ReadAnswer) (f : Fault) (w : State) (next : Record → State → Effect (Turn Claimed)) → Err f ≡ record_for (claim_during a) ans → on_read broken_bare claim None a ans w next ≡ effect_free (ends (broken f [])) w
-was_fault a (got x) f w next e = cc
-was_fault a absent f w next e = cc
-was_fault a (unread g) f w next e = cc
-
 module _ (s : Settings) (room a : ℕ) (h : Held) (st : Store) (ck : Readings) (ms : List (Result Manifest ℕ)) (h₁ : Held) (st₁ : Store) (looked : h₁ ≡ held_after s.number (read st).answer h) (after : st₁ ≡ (read st).after) where
-  pub attempt_unread : (f : Fault) → Err f ≡ record_for (claim_during a) (read st).answer → claim_attempt s room a (state h st ck ms) ≡ effect_free (ends (broken f [])) (state h₁ st₁ ck ms)
-  attempt_unread f e = rw (looked, after) (was_fault a (read st).answer f _ (claim_walk s room a) e)
-
   module _ (r : Record) (found : (read st).answer ≡ got r) (cs : List Entry) (n : ℕ) (h₂ : Held) (chose : cs ≡ (walked r.entries room h₁.table h₁.jobs).chosen) (stops : n ≡ (walked r.entries room h₁.table h₁.jobs).stopped) (kept : h₂ ≡ with_jobs h₁ (walked r.entries room h₁.table h₁.jobs).table (walked r.entries room h₁.table h₁.jobs).jobs) where
     -- the walk was made
     pub attempt_walked : claim_attempt s room a (state h st ck ms) ≡ claim_chosen s room a h₁.table r cs n (state h₂ st₁ ck ms)
@@ -59,9 +51,6 @@ module _ (s : Settings) (room a : ℕ) (h : Held) (st : Store) (ck : Readings) (
         ∙ ap (λ x. claim_chosen s room a h₁.table r x (walked r.entries room h₁.table h₁.jobs).stopped (state (with_jobs h₁ (walked r.entries room h₁.table h₁.jobs).table (walked r.entries room h₁.table h₁.jobs).jobs) st₁ ck ms)) (sym chose)
         ∙ ap (λ x. claim_chosen s room a h₁.table r cs x (state (with_jobs h₁ (walked r.entries room h₁.table h₁.jobs).table (walked r.entries room h₁.table h₁.jobs).jobs) st₁ ck ms)) (sym stops)
         ∙ ap (λ x. claim_chosen s room a h₁.table r cs n (state x st₁ ck ms)) (sym kept)
-
-    pub attempt_none : cs ≡ [] → claim_attempt s room a (state h st ck ms) ≡ record { result = ends none_chosen; state = state h₂ st₁ ck ms; writes = []; stopped = n }
-    attempt_none e = attempt_walked ∙ ap (λ x. claim_chosen s room a h₁.table r x n (state h₂ st₁ ck ms)) e
 
     pub attempt_sent : (0 ≡ length cs → ⊥) → claim_attempt s room a (state h st ck ms) ≡ claim_write s room a h₁.table r cs n (state h₂ st₁ ck ms)
     attempt_sent some = attempt_walked ∙ by cs some
@@ -121,9 +110,6 @@ module _ (n room max : ℕ) (h h₁ h₂ : Held) (r : Record) (cs : List Entry) 
 
 -- the answer and the counts of an attempt that ended so
 module _ (x : List (Result Manifest ℕ) → Effect (Turn Claimed)) (t : Turn Claimed) (n : ℕ) (ended : (ms : List (Result Manifest ℕ)) → (x ms).result ≡ t) (stops : (ms : List (Result Manifest ℕ)) → (x ms).stopped ≡ n) where
-  pub answer_by : (e : ClaimEnd) → e ≡ turn_end t → (ms : List (Result Manifest ℕ)) → e ≡ turn_end (x ms).result
-  answer_by e p ms = p ∙ ap turn_end (sym (ended ms))
-
   pub counts_by : (c : Counts) (k l : ℕ) → k ≡ turn_claimed t → l ≡ turn_left t → (ms : List (Result Manifest ℕ)) → record { claimed = k; started = c.started; let_go = c.let_go; left = l; stopped = c.stopped + n } ≡ counted_turn c (x ms).result (x ms).stopped
   counts_by c k l p q ms =
       let r : record { claimed = k; started = c.started; let_go = c.let_go; left = l; stopped = c.stopped + n } ≡ counted_turn c t n = cc in

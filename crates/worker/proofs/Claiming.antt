@@ -1,12 +1,12 @@
 -- The loop of a claim: what each way out of an attempt comes to.
-use Rattle.std.proofs.Common.{◌≡◌, ℕ, suc, ◌+◌, ◌-◌, ◌*◌, ◌<◌, ◌≤◌, List, [], None, Result, sym, refl, ap, ◌∙◌, arith}
+use Rattle.std.proofs.Common.{◌≡◌, ℕ, suc, ◌+◌, ◌-◌, ◌*◌, ◌≤◌, List, [], None, Result, sym, refl, ap, ◌∙◌, arith}
 use Rattle.compactions.specs.Trees.{Manifest}
 use Rattle.stores.specs.Stores.{Store}
 use Rattle.executors.specs.Clocks.{Readings}
 use Rattle.worker_steps.specs.Faults.{claim, fault, not_landed}
 use Rattle.worker_steps.specs.States.{Settings, Held, State, state}
 use Rattle.worker_steps.specs.Effects.{Effect, Turn, ends, again, retry}
-use Rattle.worker_steps.specs.Claims.{Claimed, none_chosen, landed_at, broken, broken_bare, claim_attempt, claiming}
+use Rattle.worker_steps.specs.Claims.{Claimed, none_chosen, landed_at, broken, broken_bare, claim_attempt}
 use Rattle.worker_steps.proofs.Retries.{Follows, retry_ends, follows_on}
 use Rattle.worker.specs.Polls.{Counts, ClaimEnd, none, landed, faulted, conflict, claim_end, claim_count, left_count, turn_end, counted_turn, counted_claim}
 
@@ -23,21 +23,6 @@ pub record Claiming (s : Settings) (room a : ℕ) (whole : List (Result Manifest
   pub let_go : c.let_go ≡ c₀.let_go
   pub few : c.stopped ≤ 32 * a
 
-pub claiming_none : (s : Settings) (room : ℕ) (h : Held) (st : Store) (ck : Readings) (c : Counts) → c.claimed ≡ 0 → c.left ≡ 0 → c.stopped ≡ 0 → Claiming s room 1 (λ ms. claiming s room (state h st ck ms)) h st ck c c
-claiming_none s room h st ck c p q r = record {
-  follows = λ ms. by (suc s.limit - 1) (omega arith) ms;
-  claimed = p;
-  left = q;
-  started = refl;
-  let_go = refl;
-  few = omega arith;
-}
-  where
-    by : (k : ℕ) → k ≡ s.limit → (ms : List (Result Manifest ℕ)) → Follows c.stopped (retry k 1 (claim_attempt s room) (given_up s) (state h st ck ms)) (claiming s room (state h st ck ms))
-    by k e ms =
-        let z = ap (λ n. retry n 1 (claim_attempt s room) (given_up s) (state h st ck ms)) e in
-        record { result = ap (λ x. x.result) z; state = ap (λ x. x.state) z; stopped = let y = ap (λ x. x.stopped) z in omega (arith, r, y) }
-
 -- a claim that comes to `whole` ended so
 pub record Ended (whole : List (Result Manifest ℕ) → Effect Claimed) (e : ClaimEnd) (c₀ c : Counts) (v : List (Result Manifest ℕ) → State) : Type 0 where
   pub answer : (ms : List (Result Manifest ℕ)) → e ≡ claim_end (whole ms).result
@@ -51,26 +36,6 @@ was_again (ends (broken f cs)) e = cc
 was_again again e = refl
 
 module _ {s : Settings} {room a : ℕ} {whole : List (Result Manifest ℕ) → Effect Claimed} {h : Held} {st : Store} {ck : Readings} {c₀ c : Counts} (inv : Claiming s room a whole h st ck c₀ c) where
-  -- no attempt is left
-  pub gave_up : s.limit < a → Ended whole (faulted (fault not_landed claim None s.limit)) c₀ c (λ ms. state h st ck ms)
-  gave_up past = record {
-    answer = λ ms. ap claim_end (over ms).result;
-    counts = λ ms.
-        let r = (whole ms).result in
-        let k : c.claimed ≡ claim_count r = inv.claimed ∙ ap claim_count (over ms).result in
-        let l : c.left ≡ left_count r = inv.left ∙ ap left_count (over ms).result in
-        let n : c.stopped ≡ (whole ms).stopped = let m = (over ms).stopped in omega (arith, m) in
-        ap (λ x. record { claimed = x; started = c.started; let_go = c.let_go; left = c.left; stopped = c.stopped }) k
-        ∙ ap (λ x. record { claimed = claim_count r; started = x; let_go = c.let_go; left = c.left; stopped = c.stopped }) inv.started
-        ∙ ap (λ x. record { claimed = claim_count r; started = c₀.started; let_go = x; left = c.left; stopped = c.stopped }) inv.let_go
-        ∙ ap (λ x. record { claimed = claim_count r; started = c₀.started; let_go = c₀.let_go; left = x; stopped = c.stopped }) l
-        ∙ ap (λ x. record { claimed = claim_count r; started = c₀.started; let_go = c₀.let_go; left = left_count r; stopped = x }) n;
-    after = λ ms. (over ms).state;
-  }
-    where
-      over : (ms : List (Result Manifest ℕ)) → Follows c.stopped (retry 0 a (claim_attempt s room) (given_up s) (state h st ck ms)) (whole ms)
-      over ms = let none : suc s.limit - a ≡ 0 = omega arith in rw none at inv.follows ms
-
   module _ (within : a ≤ s.limit) (s' : Settings) (same : s' ≡ s) (e : ClaimEnd) (c' : Counts) (v : List (Result Manifest ℕ) → State) (answered : (ms : List (Result Manifest ℕ)) → e ≡ turn_end (claim_attempt s' room a (state h st ck ms)).result) (counted : (ms : List (Result Manifest ℕ)) → c' ≡ counted_turn c (claim_attempt s' room a (state h st ck ms)).result (claim_attempt s' room a (state h st ck ms)).stopped) (later : (ms : List (Result Manifest ℕ)) → v ms ≡ (claim_attempt s' room a (state h st ck ms)).state) where
     abbrev x : List (Result Manifest ℕ) → Effect (Turn Claimed)
     x ms = claim_attempt s room a (state h st ck ms)

@@ -1,5 +1,5 @@
 -- One claimed entry of a dispatch, by what becomes of it.
-use Rattle.std.proofs.Common.{◌≡◌, ℕ, suc, ◌+◌, ◌≤◌, true, false, List, [], ◌∷◌, map, length, Some, None, Option, Result, sym, refl, ap, ◌∙◌, subst, arith}
+use Rattle.std.proofs.Common.{◌≡◌, ℕ, ◌+◌, ◌≤◌, true, false, List, [], ◌∷◌, map, length, Some, None, Option, Result, sym, refl, ap, ◌∙◌, subst, arith}
 use Rattle.compactions.specs.Entries.{Entry}
 use Rattle.compactions.specs.Jobs.{Args}
 use Rattle.compactions.specs.Trees.{Manifest}
@@ -17,7 +17,6 @@ use Rattle.worker_steps.proofs.Tracking.{start_row, settle}
 use Rattle.worker_steps.proofs.Releasing.{Less, releasing_less, less_tracked}
 use Rattle.worker.specs.Polls.{Counts}
 use Rattle.stores.specs.Records.{entry_id}
-use Rattle.worker_steps.specs.Faults.{fault_of}
 use Rattle.worker.specs.declared.dispatch.Unreleased.{Unreleased}
 use Rattle.worker.specs.Dispatches.{so_far, dispatched, SettledOne, StuckOne}
 use Rattle.worker.proofs.Walks.{at_true, at_false}
@@ -115,19 +114,6 @@ pub record Dispatching (s : Settings) (m : Manifest) (whole : List (Result Manif
   pub few : c.started + c.let_go + length ws ≤ 8
   pub frame : c ≡ record { claimed = c₀.claimed; started = c.started; let_go = c.let_go; left = 0; stopped = c₀.stopped }
 
-pub dispatching_none : (s : Settings) (m : Manifest) (max : ℕ) (ws : List Entry) (h : Held) (st : Store) (k : Readings) (c : Counts) → length ws ≤ 8 → Tracked max (map entry_id ws) h.table h.left → c.started ≡ 0 → c.let_go ≡ 0 → c.left ≡ 0 → Dispatching s m (λ ms. dispatching s m ws (state h st k ms)) max ws h st k c c
-dispatching_none s m max ws h st k c small b p q r = record {
-  result = λ ms.
-      let d = (dispatching s m ws (state h st k ms)).result in
-      let x : c.started + d.started ≡ d.started = omega (arith, p) in
-      let y : c.let_go + d.let_go ≡ d.let_go = omega (arith, q) in
-      ap (λ n. record { fault = d.fault; started = n; let_go = c.let_go + d.let_go; left = d.left }) x ∙ ap (λ n. record { fault = d.fault; started = d.started; let_go = n; left = d.left }) y;
-  after = λ ms. refl;
-  tracked = b;
-  few = omega (arith, p, q, small);
-  frame = ap (λ n. record { claimed = c.claimed; started = c.started; let_go = c.let_go; left = n; stopped = c.stopped }) r;
-}
-
 module _ {s : Settings} {m : Manifest} {whole : List (Result Manifest ℕ) → Effect Dispatch} {max : ℕ} {h : Held} {st : Store} {k : Readings} {c₀ c : Counts} where
   -- one more is settled
   pub dispatching_more : {ws : List Entry} (e : Entry) (es : List Entry) (h' : Held) (st' : Store) (k' : Readings) (c' : Counts) (s' : Settings) → Dispatching s m whole max ws h st k c₀ c → ws ≡ e ∷ es → s' ≡ s → SettledOne s' m e h st k c h' st' k' c' → Dispatching s m whole max es h' st' k' c₀ c'
@@ -142,35 +128,10 @@ module _ {s : Settings} {m : Manifest} {whole : List (Result Manifest ℕ) → E
         frame = let p = o.frame in let q = b.frame in cc;
       }
 
-  -- all are settled
-  module _ {ws : List Entry} (d : Dispatching s m whole max ws h st k c₀ c) (none : ws ≡ []) where
-    pub dispatched_all : (ms : List (Result Manifest ℕ)) → record { fault = None; started = c.started; let_go = c.let_go; left = c.left } ≡ (whole ms).result
-    dispatched_all ms =
-        let b = rw none at d in
-        let x : c.started ≡ c.started + 0 = omega arith in
-        let y : c.let_go ≡ c.let_go + 0 = omega arith in
-        let z = ap (λ u. u.left) b.frame in
-        let w : ◌≡◌ {A = Dispatch} (record { fault = None; started = c.started; let_go = c.let_go; left = c.left }) (record { fault = None; started = c.started + 0; let_go = c.let_go + 0; left = 0 }) = cc in
-        w ∙ b.result ms
-
-    pub dispatched_after : (ms : List (Result Manifest ℕ)) → state h st k ms ≡ (whole ms).state
-    dispatched_after ms = (rw none at d).after ms
-
   -- one met a fault, and it and the others are left
   module _ {ws : List Entry} (e : Entry) (es : List Entry) (u : Unreleased) (h' : Held) (st' : Store) (k' : Readings) (c' : Counts) (s' : Settings) (d : Dispatching s m whole max ws h st k c₀ c) (first : ws ≡ e ∷ es) (same : s' ≡ s) (one : StuckOne s' m e u h st k c h' st' k' c') where
     pub stuck_pending : Tracked max (e.id ∷ map entry_id es) h'.table h'.left
     stuck_pending = one.tracked max (e.id ∷ map entry_id es) (rw first at d).tracked
-
-    pub dispatched_stuck : (n : ℕ) → n ≡ length es + 1 → (ms : List (Result Manifest ℕ)) → record { fault = Some (fault_of u.fault); started = c'.started; let_go = c'.let_go; left = n } ≡ (whole ms).result
-    dispatched_stuck n many ms =
-        let b = rw first at d in
-        let o = rw same at one in
-        let r = ap (λ (x : Dispatch). so_far c x) (o.result es ms) ∙ b.result ms in
-        let x : c'.started ≡ c.started + 0 = omega (arith, ap (λ y. y.started) o.counts) in
-        let y : c'.let_go ≡ c.let_go + 0 = omega (arith, ap (λ y. y.let_go) o.counts) in
-        let z : n ≡ suc (length es) = omega (arith, many) in
-        let w : ◌≡◌ {A = Dispatch} (record { fault = Some (fault_of u.fault); started = c'.started; let_go = c'.let_go; left = n }) (record { fault = Some (fault_of u.fault); started = c.started + 0; let_go = c.let_go + 0; left = suc (length es) }) = cc in
-        w ∙ r
 
     pub dispatched_stuck_after : (ms : List (Result Manifest ℕ)) → state (with_left h' (joined (e ∷ es) h'.left)) st' k' ms ≡ (whole ms).state
     dispatched_stuck_after ms = (rw same at one).after es ms ∙ (rw first at d).after ms

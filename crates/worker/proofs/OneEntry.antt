@@ -1,5 +1,5 @@
 -- Works on one entry: what an attempt comes to by its entry and by the answer to its update.
-use Rattle.std.proofs.Common.{◌≡◌, ℕ, Bool, true, false, List, Some, None, Ok, Err, Option, Result, sym, ap, ◌∙◌}
+use Rattle.std.proofs.Common.{◌≡◌, ℕ, Bool, true, false, List, Some, None, Option, Result, sym, ap, ◌∙◌}
 use Rattle.table.specs.Tables.{lookup, holds}
 use Rattle.table.proofs.Proved.{lawful}
 use Rattle.compactions.specs.Entries.{Entry}
@@ -7,17 +7,11 @@ use Rattle.compactions.specs.Trees.{Manifest}
 use Rattle.executors.specs.Clocks.{Readings}
 use Rattle.stores.specs.Records.{Record, entry_id}
 use Rattle.stores.specs.Stores.{Store, read, got, UpdateAnswer, update}
-use Rattle.stores.specs.Meanings as stores
-use Rattle.stores.specs.declared.compactions_store.StoreFault.{StoreFault}
-use Rattle.stores.specs.declared.compactions_store.Updated.{Updated}
-use Rattle.worker_steps.specs.Faults.{fault_during, told_fault, told_as, store_failed}
 use Rattle.worker_steps.specs.States.{Settings, Held, State, state}
 use Rattle.worker_steps.specs.Owning.{under}
 use Rattle.worker_steps.specs.Effects.{Effect, effect_free, Turn, ends, on_update}
 use Rattle.worker_steps.specs.Looks.{held_after, on_read}
 use Rattle.worker_steps.specs.Releases.{Settled, written, dropped, stuck, entry_write, if_under}
-use Rattle.worker_steps.specs.declared.fault.During.{During}
-use Rattle.worker_steps.specs.declared.fault.Told.{Told}
 use Rattle.worker_steps.proofs.Rows.{held}
 use Rattle.worker.specs.Settling.{if_own}
 use Rattle.worker.specs.EntryWorks.{EntryWork, entry_read, entry_attempt}
@@ -45,15 +39,6 @@ if_own_some n (Some x) e w next p = by (under n x) p
     by : (b : Bool) → Some e ≡ elim b [ true ↦ Some x | false ↦ None ] → elim b [ true ↦ next x w | false ↦ effect_free (ends dropped) w ] ≡ next e w
     by true q = let z : x ≡ e = cc in ap (λ y. next y w) z
     by false q = cc
-
--- the answer to an update, where a fault is told of the work
-pub update_told : (d : During) (r : Result Updated StoreFault) (y : Told) → Err y ≡ told_as d r → on_update (stores.update_answer_of r) written (λ f. stuck (fault_during (store_failed f) d)) ≡ ends (stuck (told_fault y))
-update_told d (Ok u) y e = cc
-update_told d (Err f) y e = let z : y ≡ record { fault = f; during = d } = cc in ap (λ t. ends (stuck (told_fault t))) (sym z)
-
-pub update_ok : (d : During) (r : Result Updated StoreFault) (u : Updated) → Ok u ≡ told_as d r → r ≡ Ok u
-update_ok d (Ok x) u e = cc
-update_ok d (Err f) u e = cc
 
 -- the draft that was handed in
 pub handed : (d d' : Record) (st : Store) (ua : UpdateAnswer) (bad : _ → Settled) → d' ≡ d → ua ≡ (update d' st).answer → on_update ua written bad ≡ on_update (update d st).answer written bad

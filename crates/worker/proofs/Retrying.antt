@@ -1,5 +1,5 @@
 -- Attempts of a work, one after another, up to the limit.
-use Rattle.std.proofs.Common.{◌≡◌, ℕ, suc, ◌+◌, ◌-◌, ◌<◌, ◌≤◌, sym, ap, ◌∙◌, arith}
+use Rattle.std.proofs.Common.{◌≡◌, ℕ, suc, ◌+◌, ◌-◌, ◌≤◌, sym, ap, ◌∙◌, arith}
 use Rattle.worker_steps.specs.States.{State}
 use Rattle.worker_steps.specs.Effects.{Effect, Turn, ends, again, retry}
 use Rattle.worker_steps.proofs.Retries.{ComesTo, retry_ends, retry_again}
@@ -8,20 +8,7 @@ use Rattle.worker_steps.proofs.Retries.{ComesTo, retry_ends, retry_again}
 pub record Trying {X P : Type 0} (f : ℕ → State → Effect (Turn X)) (over : X) (limit a : ℕ) (whole : P → Effect X) (w : P → State) : Type 0 where
   pub comes_to : (p : P) → ComesTo (retry (suc limit - a) a f over (w p)) (whole p)
 
-pub trying_first : {X P : Type 0} (f : ℕ → State → Effect (Turn X)) (over : X) (limit : ℕ) (w : P → State) → Trying f over limit 1 (λ p. retry limit 1 f over (w p)) w
-trying_first {X} {P} f over limit w = record { comes_to = λ p. by (suc limit - 1) (omega arith) p }
-  where
-    by : (k : ℕ) → k ≡ limit → (p : P) → ComesTo (retry k 1 f over (w p)) (retry limit 1 f over (w p))
-    by k e p = let z = ap (λ n. retry n 1 f over (w p)) e in record { result = ap (λ x. x.result) z; state = ap (λ x. x.state) z }
-
 module _ {X P : Type 0} {f : ℕ → State → Effect (Turn X)} {over : X} {limit a : ℕ} {whole : P → Effect X} {w : P → State} (t : Trying f over limit a whole w) where
-  -- no attempt is left
-  pub tried_all : limit < a → (p : P) → (over ≡ (whole p).result) × (w p ≡ (whole p).state)
-  tried_all past p =
-      let none : suc limit - a ≡ 0 = omega arith in
-      let c = rw none at t.comes_to p in
-      (c.result, c.state)
-
   -- one is made
   module _ (within : a ≤ limit) (v : P → State) (left : (p : P) → v p ≡ (f a (w p)).state) where
     one_less : (p : P) → ComesTo (retry (suc (suc limit - (a + 1))) a f over (w p)) (whole p)
