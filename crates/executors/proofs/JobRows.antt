@@ -1,16 +1,16 @@
 -- Rows of a job table, the jobs that they mean, and the jobs' arguments.
-use Rattle.std.proofs.Common.{◌≡◌, ℕ, Bool, true, false, cond, ltb, List, map, length, refl, ◌∙◌, arith}
+use Rattle.std.proofs.Common.{◌≡◌, ℕ, true, false, ltb, List, map, length, ◌∙◌, arith}
 use Rattle.std.proofs.lemmas.List.{length-map}
 use Rattle.std.proofs.lemmas.Bool.Decides.{nat_tests}
 use Rattle.table.specs.Ids.{by}
-use Rattle.table.specs.Tables.{ascends, holds, put, admits, strike}
+use Rattle.table.specs.Tables.{ascends, holds, admits}
 use Rattle.table.proofs.Proved.{lawful}
 use Rattle.table.proofs.Order.{ascending_from}
-use Rattle.table.proofs.Mapped.{holds-map, put_map, strike-map}
+use Rattle.table.proofs.Mapped.{holds-map}
 use Rattle.compactions.specs.Jobs.{Args}
 use Rattle.executors.specs.declared.job_table.Job as rows
 use Rattle.executors.specs.Executors.{job_id, may_start}
-use Rattle.executors.specs.Jobs.{Jobs, id_of, args_in, begun, ended}
+use Rattle.executors.specs.Jobs.{id_of}
 use Rattle.executors.specs.Tables.{job_of}
 
 -- a new row fits exactly if a place is free
@@ -20,10 +20,6 @@ admits_new key room r xs a h = let n = (lawful key).length_put r xs (ascending_f
 -- the id of a row
 abbrev pub row_id : rows.Job → ℕ
 row_id = by (λ j. j.args.id)
-
--- the jobs that rows mean, and the number of the next start
-abbrev pub table_with : List rows.Job → ℕ → Jobs
-table_with xs n = record { running = map job_of xs; next = n }
 
 -- the arguments of the rows
 abbrev pub args_at : List rows.Job → List Args
@@ -40,16 +36,3 @@ may_new xs r a h =
     let n = admits_new row_id 8 r xs a h in
     let m = length-map (map job_of xs) (λ j. j.args) ∙ length-map xs job_of in
     grind arith
-
--- the arguments after a start
-pub args_begun : (b : Bool) (a : Args) (t : Jobs) → args_in (cond b (begun a t) t) ≡ cond b (put job_id a (args_in t)) (args_in t)
-args_begun true a t = put_map (λ j. j.args) job_id _ t.running
-args_begun false a t = refl
-
--- the arguments after an end
-pub args_ended : (i : ℕ) (t : Jobs) → args_in (ended i t) ≡ strike job_id i (args_in t)
-args_ended i t = strike-map (λ j. j.args) job_id i t.running
-
--- what an end leaves of the rows, by meaning
-pub rows_ended : (i n : ℕ) (xs ys : List rows.Job) → ys ≡ strike row_id i xs → table_with ys n ≡ ended i (table_with xs n)
-rows_ended i n xs ys e = let p = strike-map job_of id_of i xs in cc

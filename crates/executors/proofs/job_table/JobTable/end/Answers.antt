@@ -1,18 +1,18 @@
-use Rattle.std.proofs.Common.{ap, ◌∙◌}
+use Rattle.std.proofs.Common.{map, ◌∙◌, rules}
 use Rattle.table.specs.Fixed.{rows_in}
 use Rattle.table.specs.Ids.{number}
-use Rattle.executors.specs.Jobs.{args_in}
-use Rattle.executors.specs.Tables.{table_of}
-use Rattle.executors.proofs.JobRows.{holds_args, rows_ended, args_ended}
+use Rattle.table.proofs.Mapped.{strike-map}
+use Rattle.executors.specs.Executors.{job_id}
+use Rattle.executors.specs.Jobs.{id_of}
+use Rattle.executors.specs.Tables.{job_of}
+use Rattle.executors.proofs.JobRows.{holds_args}
 use Rattle.executors.proofs.job_table.JobTable.end.Goals as goal
 
 pub returns : goal.returns
 returns c =
-    let t = c.args.self.now in
     let i = number c.args.id in
-    let after = rows_ended i t.next (rows_in t.jobs) _ c.strike.ensures.after in
-    record {
-      value = c.strike.ensures.value ∙ holds_args i (rows_in t.jobs);
-      after = after;
-      jobs = ap args_in after ∙ args_ended i (table_of t);
-    }
+    let rows = rows_in c.args.self.now.jobs in
+    let had = c.strike.ensures.value ∙ holds_args i rows in
+    let jobs = strike-map job_of id_of i rows in
+    let args = strike-map (λ j. j.args) job_id i (map job_of rows) in
+    search rules
