@@ -3,22 +3,20 @@ ghost use Rattle.std.specs.Prelude.{◌≡◌, pos};
 ghost use Rattle.executors.specs.Clocks.{reading, passed, stamped};
 
 use std::marker::Model;
-use std::slice::Iter;
 
 // The readings ahead, and the reading given last, at first 0.
 #[derive(Drop)]
 pub struct ListClock<'a> {
-    ahead: Iter<'a, i64>,
+    ahead: &'a [i64],
     last: i64,
 }
 
 impl<'a> Model for ListClock<'a> {
-    ghost use Rattle.std.specs.Slice.Iter.{iter_rest};
     ghost use Rattle.executors.specs.Clocks.{Readings};
 
     ghost Value = { Readings };
 
-    ghost view = { λ c. record { ahead = iter_rest c.ahead; last = c.last } };
+    ghost view = { λ c. record { ahead = c.ahead.now; last = c.last } };
 }
 
 impl<'a> ListClock<'a> {
@@ -26,7 +24,7 @@ impl<'a> ListClock<'a> {
         ensures { result ≡ record { ahead = readings.now; last = pos 0 } }
     {
         ListClock {
-            ahead: readings.iter(),
+            ahead: readings,
             last: 0,
         }
     }
@@ -36,7 +34,8 @@ impl<'a> ListClock<'a> {
         ensures value { result ≡ reading self.old }
         ensures after { self.new ≡ passed self.old }
     {
-        if let Some(reading) = self.ahead.next() {
+        if let Some((reading, ahead)) = self.ahead.split_first() {
+            self.ahead = ahead;
             self.last = *reading;
         }
         self.last
