@@ -1,20 +1,9 @@
 -- Lists that agree place by place, by std's words.
-use Rattle.std.proofs.Common.{◌≡◌, suc, Bool, true, false, ◌&&◌, List, [], ◌∷◌, map, length, refl, ap, ◌∙◌, arith}
+use Rattle.std.proofs.Common.{◌≡◌, Bool, ◌&&◌, List, [], ◌∷◌, map, length, refl, ap, arith}
 use Rattle.std.specs.List.{zip, list_all}
 use Rattle.marking.specs.Marking.{alike}
 
-never : (b : Bool) → (b && false) ≡ false
-never true = refl
-never false = refl
-
 module _ {X Y : Type 0} (e : X → Y → Bool) where
-  -- lists of two lengths are not alike
-  pub lengths_differ : (xs : List X) (ys : List Y) → (length xs ≡ length ys → ⊥) → alike e xs ys ≡ false
-  lengths_differ [] [] ne = absurd (ne refl)
-  lengths_differ [] (y ∷ ys) ne = refl
-  lengths_differ (x ∷ xs) [] ne = refl
-  lengths_differ (x ∷ xs) (y ∷ ys) ne = ap (λ b. e x y && b) (lengths_differ xs ys (λ p. ne (ap suc p))) ∙ never (e x y)
-
   -- lists of one length are, where their pairs are
   pub pairs_alike : (xs : List X) (ys : List Y) → length xs ≡ length ys → list_all (λ p. e p.0 p.1) (zip xs ys) ≡ alike e xs ys
   pairs_alike [] [] n = refl

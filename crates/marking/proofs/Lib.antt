@@ -1,3 +1,2 @@
 mod Alike
 mod Claims
-mod Counts

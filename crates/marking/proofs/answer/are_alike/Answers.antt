@@ -1,12 +1,9 @@
-use Rattle.std.proofs.Common.{sym, ◌∙◌, arith, rules}
+use Rattle.std.proofs.Common.{◌∙◌, arith, rules}
 use borrow.Author.Tests.{tests}
 use Rattle.std.proofs.lemmas.Iterator.{YieldsList-from_slice, YieldsList-from_zip}
 use Rattle.std.proofs.lemmas.Iterator.Search.{all_from_yields_List}
-use Rattle.marking.proofs.Alike.{lengths_differ, pairs_alike}
+use Rattle.marking.proofs.Alike.{pairs_alike}
 use Rattle.marking.proofs.answer.are_alike.Goals as goal
-
-pub returns-then-xs-ys : goal.returns-then-xs-ys
-returns-then-xs-ys g c = λ e says. sym (lengths_differ e c.args.xs.now c.args.ys.now c.if-xs-ys.true)
 
 pub returns : goal.returns
 returns g c = λ e says.
