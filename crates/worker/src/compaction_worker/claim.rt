@@ -135,18 +135,23 @@ impl<E: CompactionExecutor> CompactionWorker<E> {
         ensures pending { PendingClaim self.new.settings.maximum self.new.held result }
     {
         let capacity = self.owned.capacity();
-        let limit = self.limit;
-        for attempt in 1..=limit {
+        // The form that the project asks of a claim: a loop whose `break` yields the landed claims.
+        let mut attempt = 1;
+        let claims = 'attempts: loop {
             match self.attempt_claim(store, clock, capacity, attempt, counts)? {
                 ClaimTurn::NoneChosen => return Ok(None),
-                ClaimTurn::Landed(claims) => return Ok(Some(LandedClaims { claims, attempt })),
+                ClaimTurn::Landed(claims) => break 'attempts claims,
                 ClaimTurn::Conflict => {}
             }
-        }
-        Err(WorkerFault::NotLanded(During {
-            work: Work::Claim,
-            id: None,
-            attempt: limit,
-        }))
+            if attempt >= self.limit {
+                return Err(WorkerFault::NotLanded(During {
+                    work: Work::Claim,
+                    id: None,
+                    attempt,
+                }));
+            }
+            attempt += 1;
+        };
+        Ok(Some(LandedClaims { claims, attempt }))
     }
 }

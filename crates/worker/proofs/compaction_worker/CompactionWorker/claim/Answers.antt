@@ -1,17 +1,18 @@
-use Rattle.std.proofs.Common.{◌≡◌, ℕ, ◌-◌, ◌≤◌, List, [], length, Ok, Result, sym, refl, ap, ◌∙◌, subst, arith}
+use Rattle.std.proofs.Common.{◌≡◌, ℕ, ◌-◌, ◌≤◌, List, [], length, None, Ok, Result, sym, refl, ap, ◌∙◌, subst, arith}
 use Rattle.std.proofs.lemmas.Result.{err_from_is_err_and}
 use Rattle.compactions.specs.Trees.{Manifest}
+use Rattle.worker_steps.specs.Faults.{fault, not_landed, claim}
 use Rattle.worker_steps.specs.States.{State, state}
 use Rattle.worker_steps.specs.Tracking.{Tracked}
 use Rattle.worker_steps.specs.Effects.{Effect}
 use Rattle.worker_steps.specs.Claims.{Claimed, claiming}
 use Rattle.worker.specs.Claims.{waiting}
-use Rattle.worker.specs.Polls.{Counts, counts_of, ClaimEnd, none, landed, conflict, turn_of, claim_end, counted_claim, PendingTurn}
-use Rattle.worker.proofs.Claiming.{Ended, ended, one_more, not_none, not_landed_end, not_faulted}
+use Rattle.worker.specs.Polls.{Counts, counts_of, ClaimEnd, none, landed, faulted, conflict, turn_of, claim_end, counted_claim, PendingTurn}
+use Rattle.worker.proofs.Claiming.{claiming_none, Ended, ended, gave_up, one_more, not_none, not_landed_end, not_faulted}
 use Rattle.worker.specs.Worker.{Worker}
 use Rattle.worker.proofs.compaction_worker.CompactionWorker.claim.Given as given
 use Rattle.worker.proofs.compaction_worker.CompactionWorker.claim.Goals as goal
-use Rattle.worker.proofs.compaction_worker.CompactionWorker.claim.Goals.{After-capacity-capacity, After-loop-attempt, After-attempt_claim}
+use Rattle.worker.proofs.compaction_worker.CompactionWorker.claim.Goals.{After-capacity-capacity, After-attempt_claim}
 
 -- the capacity that it took, by the worker's meaning
 taken_at : (g : given.Over) (c : After-capacity-capacity g) → c.capacity-capacity.result ≡ c.args.self.now.settings.maximum - length c.args.self.now.held.table
@@ -20,6 +21,26 @@ taken_at g c = rw (← c.self.view_is) c.capacity-capacity.ensures.value
 -- nothing is pending at first
 tracked_first : (g : given.Over) (c : After-capacity-capacity g) → Tracked c.args.self.now.settings.maximum [] c.args.self.now.held.table c.args.self.now.held.left
 tracked_first g c = rw (← c.self.view_is) c.capacity-capacity.ensures.tracked
+
+pub attempts-init : goal.attempts-init
+attempts-init g c =
+    let b = tracked_first g (goal.at.attempts-init g c).After-capacity-capacity in (
+      claiming_none _ _ _ _ _ (counts_of c.args.counts.now) (rw (← c.self.view_is) c.self.invariant.0) c.requires.0 c.requires.1.0 c.requires.1.1,
+      refl,
+      omega (arith, taken_at g (goal.at.attempts-init g c).After-capacity-capacity, b.room),
+      b,
+    )
+
+pub attempt_claim-requires : goal.attempt_claim-requires
+attempt_claim-requires g c =
+    let i = c.attempts.invariant.0 in
+    record {
+      small = omega (arith, c.capacity-capacity.ensures.value, c.self.invariant.1.1);
+      tracked = c.attempts.invariant.3;
+      room = c.attempts.invariant.2;
+      few = (i.few, omega (arith, i.within, ap (λ (x : Worker _). x.settings.limit) c.self.view_is, c.self.invariant.1.0));
+      fresh = (i.claimed, i.left);
+    }
 
 -- a claim that ended, by the capacity that it took
 module _ (g : given.Over) (c : After-capacity-capacity g) (e : ClaimEnd) (n : Counts) (v : List (Result Manifest ℕ) → State) where
@@ -33,48 +54,62 @@ module _ (g : given.Over) (c : After-capacity-capacity g) (e : ClaimEnd) (n : Co
     after = λ ms. z.after ms ∙ ap (λ k. (whole k ms).state) (taken_at g c);
   }
 
--- an attempt is within the limit
-within : (g : given.Over) (c : After-attempt_claim g) → c.loop-attempt.attempt ≤ c.args.self.now.settings.limit
-within g c = let e = ap (λ (x : Worker _). x.settings.limit) c.self.view_is in omega (arith, e, c.loop-attempt-test.true)
-
 pub returns-in_err-attempt_claim : goal.returns-in_err-attempt_claim
 returns-in_err-attempt_claim g c =
-    let b = (goal.at.returns-in_err-attempt_claim g c).After-attempt_claim in
+    let b = (goal.at.returns-in_err-attempt_claim g c).After-capacity-capacity in
     let said = c.in_err-attempt_claim.ensures in
     let p = err_from_is_err_and c.from_residual.result c.from_residual.ensures.1 in
-    let z = at_capacity g (goal.at.After-attempt_claim g b).After-capacity-capacity _ _ _ (ended c.loop-attempt.invariant.0 (within g b) _ c.loop-attempt.invariant.1 _ _ _ said.answer said.counts said.after (not_faulted _)) in
-    rw (p.1, p.2) (record { answer = z.answer; counts = z.counts; after = z.after; settings = said.settings ∙ c.loop-attempt.invariant.1; pending = tt })
+    let z = at_capacity g b _ _ _ (ended c.attempts.invariant.0 _ c.attempts.invariant.1 _ _ _ said.answer said.counts said.after (not_faulted _)) in
+    rw (p.1, p.2) (record { answer = z.answer; counts = z.counts; after = z.after; settings = said.settings ∙ c.attempts.invariant.1; pending = tt })
 
 pub returns-in-NoneChosen : goal.returns-in-NoneChosen
 returns-in-NoneChosen g c =
-    let b = (goal.at.returns-in-NoneChosen g c).After-attempt_claim in
+    let b = (goal.at.returns-in-NoneChosen g c).After-capacity-capacity in
     let said = c.in_ok-attempt_claim.ensures in
-    let is = ap (λ t. turn_of c.loop-attempt.attempt (Ok t)) c.in-NoneChosen.is in
-    let z = at_capacity g (goal.at.After-attempt_claim g b).After-capacity-capacity none _ _ (ended c.loop-attempt.invariant.0 (within g b) _ c.loop-attempt.invariant.1 none _ _ (λ ms. sym is ∙ said.answer ms) said.counts said.after not_none) in
-    record { answer = z.answer; counts = z.counts; after = z.after; settings = said.settings ∙ c.loop-attempt.invariant.1; pending = tt }
+    let is = ap (λ t. turn_of c.attempts.attempt (Ok t)) c.in-NoneChosen.is in
+    let z = at_capacity g b none _ _ (ended c.attempts.invariant.0 _ c.attempts.invariant.1 none _ _ (λ ms. sym is ∙ said.answer ms) said.counts said.after not_none) in
+    record { answer = z.answer; counts = z.counts; after = z.after; settings = said.settings ∙ c.attempts.invariant.1; pending = tt }
 
-pub returns-in-Landed : goal.returns-in-Landed
-returns-in-Landed g c =
-    let b = (goal.at.returns-in-Landed g c).After-attempt_claim in
+pub returns-then-attempt-self : goal.returns-then-attempt-self
+returns-then-attempt-self g c =
+    let b = (goal.at.returns-then-attempt-self g c).After-capacity-capacity in
+    let said = c.in_ok-attempt_claim.ensures in
+    let is = ap (λ t. turn_of c.attempts.attempt (Ok t)) c.in-Conflict.is in
+    let limits = ap (λ (x : Worker _). x.settings.limit) c.self-in-attempts.view_is ∙ ap (λ s. s.limit) (said.settings ∙ c.attempts.invariant.1) in
+    let last : c.args.self.now.settings.limit ≤ c.attempts.attempt = omega (arith, c.if-attempt-self.true, limits) in
+    let at : c.attempts.attempt ≡ c.args.self.now.settings.limit = omega (arith, last, c.attempts.invariant.0.within) in
+    let z = at_capacity g b (faulted (fault not_landed claim None c.args.self.now.settings.limit)) _ _ (gave_up c.attempts.invariant.0 _ c.attempts.invariant.1 conflict _ _ (λ ms. sym is ∙ said.answer ms) said.counts said.after refl last) in
+    record { answer = λ ms. ap (λ a. faulted (fault not_landed claim None a)) at ∙ z.answer ms; counts = z.counts; after = z.after; settings = said.settings ∙ c.attempts.invariant.1; pending = tt }
+
+pub attempts-smaller : goal.attempts-smaller
+attempts-smaller g c =
+    let said = c.in_ok-attempt_claim.ensures in
+    let limits : c.self-in-attempts.inside.limit ≡ c.attempt_claim.new.self.settings.limit = ap (λ (x : Worker _). x.settings.limit) c.self-in-attempts.view_is in
+    let same : c.attempt_claim.new.self.settings.limit ≡ c.attempts.self.settings.limit = ap (λ s. s.limit) said.settings in
+    omega (arith, limits, same, c.if-attempt-self.false)
+
+pub attempts-preserved : goal.attempts-preserved
+attempts-preserved g c =
+    let said = c.in_ok-attempt_claim.ensures in
+    let is = ap (λ t. turn_of c.attempts.attempt (Ok t)) c.in-Conflict.is in
+    let limits = ap (λ (x : Worker _). x.settings.limit) c.self-in-attempts.view_is ∙ ap (λ s. s.limit) (said.settings ∙ c.attempts.invariant.1) in (
+      one_more c.attempts.invariant.0 _ c.attempts.invariant.1 conflict _ _ (λ ms. sym is ∙ said.answer ms) said.counts said.after refl _ _ _ (λ ms. refl) (omega (arith, limits, c.if-attempt-self.false)) said.few,
+      said.settings ∙ c.attempts.invariant.1,
+      said.room,
+      subst (λ t. PendingTurn c.attempt_claim.new.self.settings.maximum c.attempt_claim.new.self.held (Ok t)) c.in-Conflict.is said.pending,
+    )
+
+pub returns : goal.returns
+returns g c =
+    let b = (goal.at.returns g c).After-capacity-capacity in
     let said = c.in_ok-attempt_claim.ensures in
     let cs = waiting c.in-Landed.claims in
-    let is = ap (λ t. turn_of c.loop-attempt.attempt (Ok t)) c.in-Landed.is in
-    let z = at_capacity g (goal.at.After-attempt_claim g b).After-capacity-capacity (landed c.loop-attempt.attempt cs) _ _ (ended c.loop-attempt.invariant.0 (within g b) _ c.loop-attempt.invariant.1 (landed c.loop-attempt.attempt cs) _ _ (λ ms. sym is ∙ said.answer ms) said.counts said.after (not_landed_end _ cs)) in
+    let is = ap (λ t. turn_of c.attempts.attempt (Ok t)) c.in-Landed.is in
+    let z = at_capacity g b (landed c.attempts.attempt cs) _ _ (ended c.attempts.invariant.0 _ c.attempts.invariant.1 (landed c.attempts.attempt cs) _ _ (λ ms. sym is ∙ said.answer ms) said.counts said.after (not_landed_end _ cs)) in
     record {
       answer = z.answer;
       counts = z.counts;
       after = z.after;
-      settings = said.settings ∙ c.loop-attempt.invariant.1;
+      settings = said.settings ∙ c.attempts.invariant.1;
       pending = subst (λ t. PendingTurn c.attempt_claim.new.self.settings.maximum c.attempt_claim.new.self.held (Ok t)) c.in-Landed.is said.pending;
     }
-
-pub loop-attempt-preserved : goal.loop-attempt-preserved
-loop-attempt-preserved g c =
-    let b = (goal.at.loop-attempt-preserved g c).After-attempt_claim in
-    let said = c.in_ok-attempt_claim.ensures in
-    let is = ap (λ t. turn_of c.loop-attempt.attempt (Ok t)) c.in-Conflict.is in (
-      one_more c.loop-attempt.invariant.0 (within g b) _ c.loop-attempt.invariant.1 conflict _ _ (λ ms. sym is ∙ said.answer ms) said.counts said.after refl _ _ _ (λ ms. refl) said.few,
-      said.settings ∙ c.loop-attempt.invariant.1,
-      said.room,
-      subst (λ t. PendingTurn c.attempt_claim.new.self.settings.maximum c.attempt_claim.new.self.held (Ok t)) c.in-Conflict.is said.pending,
-    )

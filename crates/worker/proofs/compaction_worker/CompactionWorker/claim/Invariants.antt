@@ -1,4 +1,4 @@
-use Rattle.std.proofs.Common.{◌≡◌, ◌+◌, ◌≤◌, [], length}
+use Rattle.std.proofs.Common.{◌≡◌, ◌+◌, ◌-◌, ◌≤◌, [], length}
 use Rattle.worker_steps.specs.States.{state}
 use Rattle.worker_steps.specs.Tracking.{Tracked}
 use Rattle.worker_steps.specs.Claims.{claiming}
@@ -6,8 +6,8 @@ use Rattle.worker.specs.Polls.{counts_of}
 use Rattle.worker.proofs.Claiming.{Claiming}
 use Rattle.worker.proofs.compaction_worker.CompactionWorker.claim.Given as goal
 
-abbrev pub invariant-loop-attempt : goal.invariant-loop-attempt
-invariant-loop-attempt g l =
+abbrev pub invariant-attempts : goal.invariant-attempts
+invariant-attempts g l =
     let m = g.S.CompactionsStore in
     let s = l.initial.self.settings in
     let h₀ = l.initial.self.held in
@@ -16,3 +16,6 @@ invariant-loop-attempt g l =
     × (l.self.settings ≡ s)
     × (l.capacity + length h.table ≤ l.self.settings.maximum)
     × Tracked l.self.settings.maximum [] h.table h.left
+
+abbrev pub decreases-attempts : goal.decreases-attempts
+decreases-attempts g l = l.self.settings.limit - l.attempt
