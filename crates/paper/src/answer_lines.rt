@@ -104,7 +104,10 @@ fn claim_on(heap: Global, part: Part, words: Words<'_>) -> Result<Claim, Problem
             InAnswer::Tick,
         ),
         Part::LastRun => claimed(
-            words.only().and_then(is_set).map(Claim::LastRun),
+            words
+                .only()
+                .and_then(|word| choice_in(word, b"set", b"unset"))
+                .map(Claim::LastRun),
             InAnswer::LastRun,
         ),
         Part::Retention => claimed(
@@ -112,12 +115,17 @@ fn claim_on(heap: Global, part: Part, words: Words<'_>) -> Result<Claim, Problem
             InAnswer::Retention,
         ),
         Part::Context => claimed(
-            words.only().and_then(is_present).map(Claim::Context),
+            words
+                .only()
+                .and_then(|word| choice_in(word, b"present", b"absent"))
+                .map(Claim::Context),
             InAnswer::Context,
         ),
     }
 }
 
+// This and the next are two loops: one for both would take how a word is read, what that means and
+// the problem, and its contract would be longer than both.
 fn views_in(heap: Global, words: Words<'_>) -> Result<Vec<SsTableView>, Problem>
     ensures { sufficed result ≡ true → read_as (λ v. map view_of v.items) result ≡ views_in words.entry [] }
 {
@@ -144,22 +152,15 @@ fn claimed(claim: Option<Claim>, expected: InAnswer) -> Result<Claim, Problem>
     Ok(claim.ok_or(expected)?)
 }
 
-fn is_set(word: &[u8]) -> Option<bool>
-    ensures { result ≡ choice (codes "set") (codes "unset") word.now }
+// One of two words: true for the first.
+fn choice_in(word: &[u8], one: &[u8], other: &[u8]) -> Option<bool>
+    ensures { result ≡ choice one.now other.now word.now }
 {
-    match word {
-        b"set" => Some(true),
-        b"unset" => Some(false),
-        _ => None,
-    }
-}
-
-fn is_present(word: &[u8]) -> Option<bool>
-    ensures { result ≡ choice (codes "present") (codes "absent") word.now }
-{
-    match word {
-        b"present" => Some(true),
-        b"absent" => Some(false),
-        _ => None,
+    if word == one {
+        Some(true)
+    } else if word == other {
+        Some(false)
+    } else {
+        None
     }
 }

@@ -51,6 +51,8 @@ fn finish_manifest(heap: Global, draft: ManifestDraft) -> Result<Paper, PaperErr
     })
 }
 
+// The heap, which is of the whole paper, and the number of one line stay two parameters: an enum of
+// stages has no place for them, and a struct around it would be taken apart at each line.
 impl Reader {
     fn read_line(self, heap: Global, number: usize, text: &[u8]) -> Result<Reader, PaperError>
         ensures { sufficed_at result ≡ true → read_as stage_of result ≡ line_read number text.now (stage_of self) }
@@ -67,10 +69,10 @@ impl Reader {
     fn read_words(self, heap: Global, number: usize, line: Line<'_>) -> Result<Reader, PaperError>
         ensures { sufficed_at result ≡ true → read_as stage_of result ≡ words_read number (line.entry.keyword.now ∷ words line.entry.rest.now) (stage_of self) }
     {
-        // Compared by ==: as a match on byte strings the goal of its last arm did not close.
-        if line.keyword == b"manifest".as_slice() {
+        // By tests: as a match on byte strings the goal of its last arm did not close.
+        if line.is(b"manifest") {
             at_line(number, self.begin_manifest(line.words()))
-        } else if line.keyword == b"entry".as_slice() {
+        } else if line.is(b"entry") {
             self.begin_entry(heap, number, line.words())
         } else {
             self.read_part(heap, number, line)

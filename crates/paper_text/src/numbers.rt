@@ -54,6 +54,8 @@ pub(crate) fn behind<'a>(word: &'a [u8], beginning: &[u8]) -> Option<&'a [u8]>
     word.strip_prefix(beginning)
 }
 
+// Two functions, each a line: one generic function would state its result by what TryFrom gives, and
+// each caller would prove the bound again.
 pub fn u32_in(word: &[u8]) -> Option<u32>
     ensures { result ≡ u32_of word.now }
 {

@@ -2,6 +2,7 @@
 ghost use Rattle.std.specs.Prelude.{◌≡◌, ◌≤◌, List, [], ◌∷◌, ℕ, length, MatchOption};
 ghost use Rattle.std.specs.Iterator.{YieldsFirstBy, item_count};
 ghost use Rattle.std.specs.Option.{option_map};
+ghost use Rattle.std.specs.Str.{bytes_eq};
 ghost use Rattle.paper_text.specs.Words.{is_blank, words, leading, only_word};
 
 use std::marker::Model;
@@ -82,6 +83,13 @@ impl<'a> Line<'a> {
             keyword: &dark[..end],
             rest: &dark[end..],
         })
+    }
+
+    // Whether the first word is that keyword.
+    pub fn is(self, keyword: &[u8]) -> bool
+        ensures { result ≡ bytes_eq self.entry.keyword.now keyword.now }
+    {
+        self.keyword == keyword
     }
 
     // The words behind the first.

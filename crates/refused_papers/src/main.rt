@@ -9,66 +9,57 @@ use std::alloc::{AllocError, Global};
 use std::io::Read;
 use std::{io, mem};
 
-// A paper of the list, as far as its lines were read.
+// A paper of the list, as far as its lines were read; no text before its first line.
 #[derive(Drop)]
 struct Listed {
     name: Vec<u8>,
-    text: Vec<u8>,
-    has_line: bool,
+    text: Option<Vec<u8>>,
 }
 
 impl Listed {
     fn new(heap: Global, name: &[u8]) -> Result<Listed, AllocError> {
         Ok(Listed {
             name: Vec::from_slice(heap, name)?,
-            text: Vec::new(heap),
-            has_line: false,
+            text: None,
         })
     }
 
-    fn add_line(&mut self, line: &[u8]) -> Result<(), AllocError> {
-        if self.has_line {
-            self.text.push(b'\n')?;
+    fn add_line(&mut self, heap: Global, line: &[u8]) -> Result<(), AllocError> {
+        match &mut self.text {
+            Some(text) => {
+                text.push(b'\n')?;
+                text.extend_from_slice(line)?;
+            }
+            None => self.text = Some(Vec::from_slice(heap, line)?),
         }
-        self.has_line = true;
-        self.text.extend_from_slice(line)
+        Ok(())
     }
 
     fn print(&self, rt: &HostRuntime) -> io::Result<()> {
         let name = String::from_utf8_lossy(rt.alloc(), self.name.as_slice())?;
-        match Paper::read(rt.alloc(), self.text.as_slice()) {
+        let text = match &self.text {
+            Some(text) => text.as_slice(),
+            None => b"",
+        };
+        match Paper::read(rt.alloc(), text) {
             Ok(_) => println!(rt; "{name}: accepted"),
             Err(error) => println!(rt; "{name}: {error}"),
         }
     }
 }
 
-fn lines(heap: Global, input: &[u8]) -> Result<Vec<Vec<u8>>, AllocError> {
-    let mut lines = Vec::new(heap);
-    let mut line = Vec::new(heap);
-    for b in input {
-        if *b == b'\n' {
-            lines.push(mem::replace(&mut line, Vec::new(heap)))?;
-        } else {
-            line.push(*b)?;
-        }
-    }
-    if !line.is_empty() {
-        lines.push(line)?;
-    }
-    Ok(lines)
-}
-
 // The papers of the list; lines before the first name are left out.
-fn papers(heap: Global, lines: &[Vec<u8>]) -> Result<Vec<Listed>, AllocError> {
+fn papers(heap: Global, input: &[u8]) -> Result<Vec<Listed>, AllocError> {
     let mut papers = Vec::new(heap);
     let mut current = Listed::new(heap, b"")?;
-    for line in lines {
-        match line.as_slice() {
+    // An LF at the end begins no line.
+    let lines = input.strip_suffix(b"\n").unwrap_or(input);
+    for line in lines.split(|b| *b == b'\n') {
+        match line {
             [b'=', b'=', b'=', b' ', name @ ..] => {
                 papers.push(mem::replace(&mut current, Listed::new(heap, name)?))?;
             }
-            text => current.add_line(text)?,
+            text => current.add_line(heap, text)?,
         }
     }
     papers.push(current)?;
@@ -78,8 +69,7 @@ fn papers(heap: Global, lines: &[Vec<u8>]) -> Result<Vec<Listed>, AllocError> {
 fn main(rt: HostRuntime) -> io::Result<()> {
     let mut input = Vec::new(rt.alloc());
     rt.stdin().read_to_end(&mut input)?;
-    let lines = lines(rt.alloc(), input.as_slice())?;
-    for paper in papers(rt.alloc(), lines.as_slice())?.iter().skip(1) {
+    for paper in papers(rt.alloc(), input.as_slice())?.iter().skip(1) {
         paper.print(&rt)?;
     }
     Ok(())
