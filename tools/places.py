@@ -24,8 +24,8 @@ LINE_PATTERNS = {
     4: [r"^impl.* (PartialEq|Eq|PartialOrd|Ord|Clone|Copy|From<.*>|fmt::Display|Default) for ",
         r"fn (is|is_before|is_key|is_same_\w+|are_\w+|to_u128|from_u128|digit|positive|negative|stamp_of|text|write_\w+)[<(]",
         r"u128::from|\bas (u|i)\d+"],
-    6: [r"^\s+(pub )?len: usize,", r"^\s+(pub )?at: usize,", r"^\s+(pub )?\w+: \[\w+; \w+\],",
-        r"^\s+(pub )?edits: usize,", r"\.\.self\.len\]"],
+    6: [r"^\s+(pub(\(crate\))? )?(len|at|edits): usize,", r"^\s+(pub(\(crate\))? )?\w+: \[\w+; \w+\],",
+        r"\.\.self\.len\]"],
     7: [r"\bis\(\w+, b\"", r"\b(FnOnce|FnMut|Fn)\(", r"\bdyn "],
 }
 
@@ -84,7 +84,7 @@ def recurring():
 def answers():
     bodies, lemmas = collections.defaultdict(list), {}
     everything = ""
-    for path in sorted(glob.glob("crates/*/*/**/*.antt", recursive=True)):
+    for path in sorted(glob.glob("crates/*/[ps]*/**/*.antt", recursive=True)):
         text = open(path, encoding="utf-8").read()
         everything += text
         found = re.findall(r"^(?:pub )?([\w'-]+)((?: [^\n:=]*)?) =((?:\n?[^\n]+)*)", text, re.M)
