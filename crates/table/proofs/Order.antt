@@ -32,10 +32,6 @@ module _ {R : Type 0} (key : R → ℕ) where
   pub strike_ascends : (k : ℕ) (xs : List R) → ascends key xs ≡ true → ascends key (strike key k xs) ≡ true
   strike_ascends k xs e = ascends_from (strike key k xs) ((lawful key).strike_ascends k xs (ascending_from xs e))
 
-  pub ascends_either : (b : Bool) (xs ys : List R) → ascends key xs ≡ true → ascends key ys ≡ true → ascends key (cond b xs ys) ≡ true
-  ascends_either true xs ys h k = h
-  ascends_either false xs ys h k = k
-
   above_without : (y : R) (ys zs : List R) (x : R) → AllByRecursion (λ z. key y < key z) (ys ++ (x ∷ zs)) → AllByRecursion (λ z. key y < key z) (ys ++ zs)
   above_without y [] zs x a = a.1
   above_without y (z ∷ ys) zs x a = (a.0, above_without y ys zs x a.1)

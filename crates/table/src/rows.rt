@@ -1,4 +1,5 @@
-// Up to N items by value: the first `len` places count.
+// Up to N items by value: the first `len` places count. An array and a length, since nothing that a
+// worker holds is on the heap.
 ghost use Rattle.std.specs.Prelude.{◌≡◌, ◌≤◌, length};
 
 mod methods;

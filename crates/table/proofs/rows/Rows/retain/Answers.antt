@@ -1,5 +1,5 @@
 use Rattle.std.proofs.Common.{◌≡◌, ◌+◌, [], ◌∷◌, ◌++◌, length, filter, drop, refl, sym, ap, ◌∙◌, arith, rules, length-append}
-use Rattle.std.proofs.lemmas.List.{take_all, drop_all, drop_more, append-nil, append_assoc}
+use Rattle.std.proofs.lemmas.List.{take_all, drop_more, append_assoc}
 use Rattle.table.specs.Counted.{items_of}
 use Rattle.table.specs.Tables.{ascends}
 use Rattle.table.proofs.Order.{ascends_without}
@@ -39,11 +39,5 @@ loop-item-preserved g c =
           )
     ]
 
-pub returns : goal.returns
-returns g c =
-    let s = c.as_slice-item-items.ensures in
-    let none = drop_all _ _ c.loop-item-test.false in
-    record {
-      kept = λ p says. c.loop-item.invariant.2 p says ∙ ap (filter p) (take_all _ _ c.loop-item-test.false ∙ s);
-      ordered = λ key a. ap (ascends key) (sym (ap (λ ys. items_of c.loop-item.self ++ ys) none ∙ append-nil (items_of c.loop-item.self))) ∙ c.loop-item.invariant.3 key (ap (ascends key) s ∙ a);
-    }
+pub returns-clause-kept : goal.returns-clause-kept
+returns-clause-kept g c = λ p says. c.loop-item.invariant.2 p says ∙ ap (filter p) (take_all _ _ c.loop-item-test.false ∙ c.as_slice-item-items.ensures)
