@@ -3,6 +3,9 @@
 // Reworked from src/compaction_worker.rs of slatedb 0.16.0 (Apache-2.0, see NOTICE); changed: no
 // tasks and tickers, a limit of attempts in place of endless retries, a list of the claims that a
 // fault left behind, and calls that answer what they did.
+//
+// The store and the clock are passed beside one another: a struct that lends both would have to be
+// made anew for each call, and each clause would still name the store's meaning and the clock.
 use crate::owned_jobs::OwnedJobs;
 use executors::compactor_executor::CompactionExecutor;
 use std::marker::Model;
