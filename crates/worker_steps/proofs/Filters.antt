@@ -3,8 +3,7 @@ use Rattle.std.proofs.Common.{◌≡◌, ℕ, ◌<◌, ◌≤◌, Bool, true, fa
 use Rattle.std.proofs.ByRecursion.{all_kept_by}
 use Rattle.std.proofs.lemmas.Bool.{cond_both, cases_Bool, cases_eq, false≢true}
 use Rattle.std.proofs.lemmas.Bool.Decides.{nat_tests}
-use Rattle.table.specs.Tables.{Ascending, ascends, holds}
-use Rattle.table.proofs.Order.{ascending_from, ascends_from}
+use Rattle.table.specs.Tables.{Ascending, holds}
 
 pub map_kept : {X Y : Type 0} (f : X → Y) (p : Y → Bool) (xs : List X) → map f (filter (λ x. p (f x)) xs) ≡ filter p (map f xs)
 map_kept f p [] = refl
@@ -18,9 +17,6 @@ module _ {R : Type 0} (key : R → ℕ) (p : R → Bool) where
   pub ascending_kept : (xs : List R) → Ascending key xs → Ascending key (filter p xs)
   ascending_kept [] a = tt
   ascending_kept (x ∷ xs) a = cond_both (p x) _ _ (Ascending key) (λ _. (all_kept_by p (λ y. key x < key y) xs a.0, ascending_kept xs a.1)) (λ _. ascending_kept xs a.1)
-
-  pub ascends_kept : (xs : List R) → ascends key xs ≡ true → ascends key (filter p xs) ≡ true
-  ascends_kept xs e = ascends_from key (filter p xs) (ascending_kept xs (ascending_from key xs e))
 
   pub length_kept : (xs : List R) → length (filter p xs) ≤ length xs
   length_kept [] = omega arith
