@@ -57,6 +57,7 @@ impl WorkerFault {
     }
 }
 
+// By hand, since clauses name what a `?` makes of a told fault.
 impl From<Told> for WorkerFault {
     ghost from_gives = { λ t r. r ≡ Store t };
 
