@@ -2,11 +2,11 @@
 ghost use Rattle.std.specs.Prelude.{◌≡◌};
 ghost use Rattle.std.specs.Option.{option_map};
 ghost use Rattle.table.specs.Counted.{items_of};
-ghost use Rattle.compactions.specs.Meanings.{view_of, run_of, tree_of, manifest_of};
+ghost use Rattle.compactions.specs.Meanings.{run_of, tree_of, manifest_of};
 ghost use Rattle.paper_text.specs.Numbers.{segment_of, held};
 ghost use Rattle.problems.specs.declared.error.Limit.TheVariants.{PrefixLength};
 ghost use Rattle.problems.specs.Outcomes.{read_as};
-ghost use Rattle.manifest_section.specs.ManifestLines.{view_added, view_line, run_view_added, with_view, with_views, run_in, run_added, run_line, segment_added, prefix_by};
+ghost use Rattle.manifest_section.specs.ManifestLines.{view_line, with_view, with_views, run_in, run_line, segment_added, prefix_by};
 
 use compactions::db_state::SortedRun;
 use compactions::manifest::{LsmTreeState, Manifest};

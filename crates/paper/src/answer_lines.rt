@@ -1,11 +1,11 @@
 // The lines of an answer, each as a step on what was read.
-ghost use Rattle.std.specs.Prelude.{◌≡◌, true, [], map, vec_items, codes};
+ghost use Rattle.std.specs.Prelude.{◌≡◌, true, [], map, vec_items};
 ghost use Rattle.std.specs.Option.{option_map};
 ghost use Rattle.compactions.specs.Meanings.{view_of};
 ghost use Rattle.problems.specs.Lines.{sufficed};
 ghost use Rattle.problems.specs.Outcomes.{read_as, or_else};
 ghost use Rattle.problems.specs.declared.error.Problem.TheVariants as problems;
-ghost use Rattle.paper.specs.Answers.{said_of, answer_of, kind, place};
+ghost use Rattle.paper.specs.Answers.{said_of, answer_of, place};
 ghost use Rattle.paper.specs.AnswerLines.{choice, views_in, runs_in, part_named, part_by, part_in, has_kind, part_added, answer_line, with_line};
 
 use compactions::db_state::SsTableView;
