@@ -1,7 +1,7 @@
 -- The first word of a line is where the code cuts it.
-use Rattle.std.proofs.Common.{◌≡◌, ℕ, true, false, eqb, List, [], ◌∷◌, length, take, drop, sym, refl, ap, ◌∙◌, arith}
-use Rattle.std.proofs.lemmas.List.{nil_from_length}
-use Rattle.std.proofs.lemmas.Bool.{cases_Bool, false≢true, eqb-true}
+use Rattle.std.proofs.Common.{◌≡◌, ℕ, ◌<◌, true, false, eqb, List, [], ◌∷◌, length, take, drop, sym, refl, ap, ◌∙◌, arith}
+use Rattle.std.proofs.lemmas.List.{length-drop, nil_from_length}
+use Rattle.std.proofs.lemmas.Bool.{cases_Bool, false≢true, eqb-true, eqb-false}
 use Rattle.paper_text.specs.Words.{is_blank, at_blank, words, leading}
 
 -- blanks at the front hide no word
@@ -21,6 +21,11 @@ words_front (b ∷ []) d = rw d refl
 words_front (b ∷ (c ∷ cs)) d =
     let ih = words_front (c ∷ cs) in let t = cases_Bool (is_blank c) in grind arith
 
+-- a word has a byte
+pub dark_some : (bs : List ℕ) → at_blank bs ≡ false → 0 < leading false bs
+dark_some [] d = absurd (false≢true (sym d))
+dark_some (b ∷ bs) d = rw d (omega arith)
+
 -- no word, where only blanks stand
 pub words_none : (bs ds : List ℕ) (n : ℕ) → n ≡ leading true bs → ds ≡ drop n bs → true ≡ eqb (length ds) 0 → words bs ≡ []
 words_none bs ds n l e t =
@@ -38,3 +43,11 @@ module _ (bs ds : List ℕ) (n m : ℕ) (l : n ≡ leading true bs) (e : ds ≡ 
   words_cut w r p q =
       words_past_blanks bs ∙ ap words (sym same) ∙ words_front ds dark
       ∙ ap (λ i. take i ds ∷ words (drop i ds)) (sym k) ∙ ap (λ x. x ∷ words (drop m ds)) (sym p) ∙ ap (λ x. w ∷ words x) (sym q)
+
+  pub words_shorter : (r : List ℕ) → r ≡ drop m ds → length r < length bs
+  words_shorter r q =
+      let some = dark_some ds dark in
+      let a = ap length q ∙ length-drop m ds in
+      let b = ap length e ∙ length-drop n bs in
+      let z = eqb-false _ _ (sym t) in
+      omega arith

@@ -1,5 +1,5 @@
 // The words of a line: bytes between spaces and tabs.
-ghost use Rattle.std.specs.Prelude.{◌≡◌, ◌≤◌, List, [], ◌∷◌, ℕ, length, MatchOption};
+ghost use Rattle.std.specs.Prelude.{◌≡◌, ◌<◌, ◌≤◌, List, [], ◌∷◌, ℕ, length, MatchOption, IfSome};
 ghost use Rattle.std.specs.Iterator.{YieldsFirstBy, item_count};
 ghost use Rattle.std.specs.Option.{option_map};
 ghost use Rattle.std.specs.Str.{bytes_eq};
@@ -72,7 +72,8 @@ impl<'a> Iterator for Words<'a> {
 impl<'a> Line<'a> {
     // None where a line has no word.
     pub fn of(text: &'a [u8]) -> Option<Line<'a>>
-        ensures { MatchOption result (words text.now ≡ []) (λ l. words text.now ≡ l.keyword.now ∷ words l.rest.now) }
+        ensures words { MatchOption result (words text.now ≡ []) (λ l. words text.now ≡ l.keyword.now ∷ words l.rest.now) }
+        ensures shorter { IfSome result (λ l. length l.rest.now < length text.now) }
     {
         let dark = &text[leading(text, true)..];
         if dark.is_empty() {
