@@ -21,7 +21,7 @@ use compactions::refusal::Refusal;
 
 mod sourced;
 
-// A missing tree has no views.
+// A missing tree has no views. As `compacted_of`, but for the field that is read.
 fn l0_of(tree: Option<&LsmTreeState>) -> &[SsTableView]
     ensures { map view_of result.now ≡ views_of (option_map (λ t. tree_of t.now) tree.entry) }
 {

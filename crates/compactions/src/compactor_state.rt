@@ -141,6 +141,7 @@ impl CompactionSpec {
         }
     }
 
+    // As `sources`, but for the field that is read.
     pub fn segment(&self) -> &[u8]
         ensures { result.now ≡ spec_segment (spec_of self.now) }
     {

@@ -19,6 +19,7 @@ pub enum Refusal {
 }
 
 impl Refusal {
+    // What is printed and marked; a clause names it, which a cast of the variant has no word for.
     pub fn number(self) -> u32
         ensures { result ≡ number_of self }
     {

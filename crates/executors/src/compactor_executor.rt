@@ -3,7 +3,7 @@
 // The trait is reworked from src/compactor_executor.rs and the notices from
 // src/compaction_worker.rs of slatedb 0.16.0 (Apache-2.0, see NOTICE); changed: a start answers
 // whether the job runs, notices are taken one by one in place of being sent, a failure is a number.
-ghost use Rattle.std.specs.Prelude.{◌≡◌, ℕ, [], if◌then◌else◌};
+ghost use Rattle.std.specs.Prelude.{◌≡◌, ◌≤◌, ℕ, [], if◌then◌else◌};
 ghost use Rattle.std.specs.Option.{option_map};
 ghost use Rattle.table.specs.Ids.{number};
 ghost use Rattle.table.specs.Tables.{holds, put, strike};
@@ -16,7 +16,8 @@ use compactions::db_state::SortedRun;
 use compactions::job_args::StartCompactionJobArgs;
 use table::ulid::Ulid;
 
-// What an executor tells of a job: how far it is, or how it ended; the failure is a number.
+// What an executor tells of a job: how far it is, or how it ended; the failure is a number that the
+// rules give no cases.
 #[derive(Clone, Copy)]
 pub enum WorkerMessage {
     CompactionJobProgress {
@@ -45,8 +46,10 @@ pub trait CompactionExecutor {
     // How many jobs can run at once.
     const PLACES: usize;
 
-    // the constant, as a generic impl knows it
+    // the constant, as a generic impl knows it; what each `impl` must prove of it
     ghost PLACES: { ℕ };
+
+    ghost at_least_eight: { 8 ≤ PLACES };
 
     // the same number, eight or more: `place_count` holds the constant to it
     ghost places: { Capacity };
@@ -57,7 +60,7 @@ pub trait CompactionExecutor {
     fn place_count() -> usize
         ensures { result ≡ places.count };
 
-    // Starts the job unless its id runs already or no place is free.
+    // Starts the job unless its id runs already or no place is free; the answer is yes or no.
     fn start_compaction_job(&mut self, args: StartCompactionJobArgs) -> bool
         ensures value { result ≡ may_start places.count (args_of args).id (jobs self.old).list }
         ensures jobs { (jobs self.new).list ≡ (if result then put job_id (args_of args) (jobs self.old).list else (jobs self.old).list) };

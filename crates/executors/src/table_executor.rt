@@ -36,10 +36,13 @@ impl<N: NextNotice> TableExecutor<N> {
     }
 }
 
+// A clause `notices` says of each call but a take that no notice is used up.
 impl<N: NextNotice> CompactionExecutor for TableExecutor<N> {
     const PLACES: usize = 8;
 
     ghost PLACES = { 8 };
+
+    ghost at_least_eight = { eight.enough };
 
     ghost places = { eight };
 

@@ -34,6 +34,7 @@ fn with_view(mut run: SortedRun, word: &[u8]) -> Result<SortedRun, Problem>
     Ok(run)
 }
 
+// One word after another, as `with_outputs` of an entry's part: two values, each with its own addition.
 fn with_views(mut run: SortedRun, words: Words<'_>) -> Result<SortedRun, Problem>
     ensures { read_as run_of result ≡ with_views words.entry (run_of run) }
 {
@@ -66,6 +67,7 @@ pub(crate) fn add_segment(
 ) -> Result<Manifest, Problem>
     ensures { read_as manifest_of result ≡ segment_added (manifest_of manifest) (items_of prefix) (tree_of tree) }
 {
+    // two refusals, each with its limit
     match manifest.add_segment(prefix.as_slice(), tree) {
         Ok(()) => Ok(manifest),
         Err(Refusal::Prefix) => Err(Limit::PrefixOrder.into()),

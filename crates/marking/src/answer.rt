@@ -76,6 +76,7 @@ fn are_alike<X, Y, F: Fn(&X, &Y) -> bool>(xs: &[X], ys: &[Y], is_same: F) -> boo
     pairs.all(|(x, y)| is_same(x, y))
 }
 
+// By value, so that the halves of the ids are known to be numbers of 64 bits.
 fn is_same_view(a: SsTableView, b: SsTableView) -> bool
     ensures { result ≡ same_view (view_of a) (view_of b) }
 {

@@ -36,6 +36,7 @@ impl Marks {
         ensures right { result.right ≡ right_answers questions.now (manifest_of manifest.now) }
         ensures of { result.of ≡ answered questions.now }
     {
+        // two counts in one walk: a chain for each would put every entry to the check twice
         let mut right: usize = 0;
         let mut of: usize = 0;
         for question in questions {

@@ -152,7 +152,7 @@ fn claimed(claim: Option<Claim>, expected: InAnswer) -> Result<Claim, Problem>
     Ok(claim.ok_or(expected)?)
 }
 
-// One of two words: true for the first.
+// One of two words: true for the first. By ==, since the words are parameters and no patterns.
 fn choice_in(word: &[u8], one: &[u8], other: &[u8]) -> Option<bool>
     ensures { result ≡ choice one.now other.now word.now }
 {

@@ -43,6 +43,7 @@ fn said_line(heap: Global, answer: Option<Answer>, line: Line<'_>) -> Result<Ans
     }
 }
 
+// By value, so that the halves of the ids are known to be numbers of 64 bits.
 fn is_same(id: Ulid, other: Ulid) -> bool
     ensures { result ≡ (number id == number other) }
 {

@@ -46,6 +46,7 @@ pub enum Problem {
     Entry(InEntry),
     #[error("expected {0}")]
     Answer(InAnswer),
+    // with the refusal that the limit has, since the definitions of what a line reads name both
     #[error("refused with {number}: {1}", number = .0.number())]
     Refused(Refusal, Limit),
     #[error("out of memory")]

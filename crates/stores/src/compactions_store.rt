@@ -14,7 +14,7 @@ pub enum Step {
     Update,
 }
 
-// A call that failed: which kind, and the store's cause.
+// A call that failed: which kind, and the store's cause, a number that the rules give no cases.
 #[derive(Clone, Copy, PartialEq, Eq, Debug)]
 pub struct StoreFault {
     pub step: Step,

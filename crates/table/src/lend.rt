@@ -1,5 +1,6 @@
 // A table over rows that are lent for one change. Each answers how many of them count after it; of
 // rows that stand in a field of a generic struct, only such a call lets a proof know what they are then.
+// Not one function that takes the change as a closure: that would have to be lent the table.
 ghost use Rattle.std.specs.Prelude.{◌≡◌, ◌≤◌, true, length, take, is_ok, if◌then◌else◌};
 ghost use Rattle.table.specs.Ids.{by, number};
 ghost use Rattle.table.specs.Tables.{ascends, holds, put, admits, strike};

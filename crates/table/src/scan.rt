@@ -7,7 +7,8 @@ ghost use Rattle.table.specs.Tables.{lookup, first_with, not_before, named_so, h
 use crate::row::Row;
 use crate::ulid::Ulid;
 
-// The place of the first row whose id is not before `id`.
+// The place of the first row whose id is not before `id`: where a row of that id would go, so one past
+// the last is a place too and no Option. `spot` differs in its test alone, a line that both show.
 pub(crate) fn place<R: Row>(rows: &[R], id: Ulid) -> usize
     ensures { result ≡ first_with (not_before (by R.named) (number id)) rows.now }
 {

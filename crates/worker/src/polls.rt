@@ -26,7 +26,7 @@ pub struct PollAnswer {
     pub counts: PollCounts,
 }
 
-// One attempt to claim that met no fault.
+// One attempt to claim that met no fault: three outcomes, of which none is the others' error or absence.
 pub enum ClaimTurn {
     NoneChosen,
     Landed(Claims),

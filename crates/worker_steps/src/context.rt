@@ -37,7 +37,8 @@ fn subcompaction_extends(old: &Subcompaction, new: &Subcompaction) -> bool
     old.range == new.range && outputs_extend(old.output_ssts.as_slice(), new.output_ssts.as_slice())
 }
 
-// Whether there are as many, and each extends the one at its place.
+// Whether there are as many, and each extends the one at its place. Outputs may be more than before,
+// so `outputs_extend` asks another thing of the lengths.
 fn subcompactions_extend(old: &[Subcompaction], new: &[Subcompaction]) -> bool
     ensures { result ≡ subs_extend (map sub_of old.now) (map sub_of new.now) }
 {

@@ -45,6 +45,7 @@ pub enum WorkerFault {
 }
 
 impl WorkerFault {
+    // What is printed and marked; a clause names it.
     pub fn number(self) -> u32
         ensures { result ≡ number_of (fault_of self).reason }
     {

@@ -60,6 +60,7 @@ impl<E: CompactionExecutor> CompactionWorker<E> {
         ensures step { SettleStep self.old.settings (manifest_of manifest.now) (entry_of claim.entry) result self.old.held (S.meaning store.old) clock.old (counts_of counts.old) self.new.held (S.meaning store.new) clock.new (counts_of counts.new) }
         ensures settings { self.new.settings ≡ self.old.settings }
     {
+        // no `?` and no map_err: each arm spends the claim, or hands it back
         match self.start(claim, manifest) {
             Ok(()) => {
                 counts.started += 1;
