@@ -21,8 +21,7 @@ impl Row for Job {
     }
 }
 
-// The jobs, ascending by their ids; `next` is the number of the next start. No model: that the jobs
-// ascend and are at most eight is read of the field, where an executor says what runs.
+// The jobs, ascending by their ids; `next` is the number of the next start.
 #[derive(Drop)]
 pub struct JobTable {
     jobs: FixedTable<Job, 8>,

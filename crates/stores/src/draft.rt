@@ -14,7 +14,6 @@ use compactions::compactor_state::Compaction;
 use compactions::refusal::Refusal;
 use table::ulid::Ulid;
 
-// No model: who holds a draft knows by its field that its entries ascend and are at most 32.
 #[derive(Drop)]
 pub struct Draft {
     record: Compactions,

@@ -2,34 +2,23 @@
 ghost use Rattle.std.specs.Prelude.{◌≡◌, []};
 ghost use Rattle.std.specs.Option.{option_map};
 ghost use Rattle.stores.specs.Meanings.{record_of};
+ghost use Rattle.stores.specs.Kinds.{held_store_of};
 ghost use Rattle.stores.specs.StoreLaws.{StoreLaws};
 
 use crate::apply::settle;
 use crate::compactions_store::{CompactionsStore, StoreFault, Updated};
 use crate::draft::Draft;
 use crate::record::Compactions;
-use std::marker::Model;
 
 #[derive(Drop)]
 pub struct HeldStore {
     current: Option<Compactions>,
 }
 
-impl Model for HeldStore {
-    ghost use Rattle.std.specs.Prelude.{[]};
-    ghost use Rattle.std.specs.Option.{option_map};
-    ghost use Rattle.stores.specs.Stores.{Store};
-    ghost use Rattle.stores.specs.Meanings.{record_of};
-
-    ghost Value = { Store };
-
-    ghost view = { λ s. record { current = option_map record_of s.current; ahead = [] } };
-}
-
 impl HeldStore {
     // Over a record, or over none yet. What holds of every store stands on this contract.
     pub fn new(current: Option<Compactions>) -> HeldStore
-        ensures value { result ≡ record { current = option_map record_of current; ahead = [] } }
+        ensures value { held_store_of result ≡ record { current = option_map record_of current; ahead = [] } }
         ensures laws { StoreLaws }
     {
         HeldStore { current }
@@ -37,7 +26,7 @@ impl HeldStore {
 }
 
 impl CompactionsStore for HeldStore {
-    ghost meaning = { λ s. s };
+    ghost meaning = { held_store_of };
 
     fn read(&mut self) -> Result<Option<Draft>, StoreFault> {
         Ok(self.current.map(Draft::of))

@@ -3,14 +3,13 @@ ghost use Rattle.std.specs.Prelude.{◌≡◌, map};
 ghost use Rattle.std.specs.Option.{option_map};
 ghost use Rattle.stores.specs.Stores.{read, next_interference};
 ghost use Rattle.stores.specs.Meanings.{record_of, outcome_of};
-ghost use Rattle.stores.specs.Kinds.{coming};
+ghost use Rattle.stores.specs.Kinds.{coming, list_store_of};
 
 use crate::apply::{every_edit, settle};
 use crate::compactions_store::{CompactionsStore, Step, StoreFault, Updated};
 use crate::draft::Draft;
 use crate::interference::{Interference, Outcome};
 use crate::record::Compactions;
-use std::marker::Model;
 
 // A record, or none yet, and what befalls each of the next calls.
 #[derive(Drop)]
@@ -19,21 +18,9 @@ pub struct ListStore<'a> {
     ahead: &'a [Interference<'a>],
 }
 
-impl<'a> Model for ListStore<'a> {
-    ghost use Rattle.std.specs.Prelude.{map};
-    ghost use Rattle.std.specs.Option.{option_map};
-    ghost use Rattle.stores.specs.Stores.{Store};
-    ghost use Rattle.stores.specs.Meanings.{record_of};
-    ghost use Rattle.stores.specs.Kinds.{coming};
-
-    ghost Value = { Store };
-
-    ghost view = { λ s. record { current = option_map record_of s.current; ahead = map coming s.ahead.now } };
-}
-
 impl<'a> ListStore<'a> {
     pub fn new(current: Option<Compactions>, ahead: &'a [Interference<'a>]) -> ListStore<'a>
-        ensures { result ≡ record { current = option_map record_of current; ahead = map coming ahead.now } }
+        ensures { list_store_of result ≡ record { current = option_map record_of current; ahead = map coming ahead.now } }
     {
         ListStore { current, ahead }
     }
@@ -41,8 +28,8 @@ impl<'a> ListStore<'a> {
     // Takes the first one ahead, applies its edits, and says how the call goes. A slice pattern, since
     // the check makes no proof where an Option holds a reference to an element that refers to edits.
     fn next_interference(&mut self) -> Outcome
-        ensures outcome { outcome_of result ≡ (next_interference self.old.ahead).outcome }
-        ensures after { self.new ≡ (read self.old).after }
+        ensures outcome { outcome_of result ≡ (next_interference (list_store_of self.old).ahead).outcome }
+        ensures after { list_store_of self.new ≡ (read (list_store_of self.old)).after }
     {
         let [next, rest @ ..] = self.ahead else {
             return Outcome::Clear;
@@ -54,7 +41,7 @@ impl<'a> ListStore<'a> {
 }
 
 impl<'a> CompactionsStore for ListStore<'a> {
-    ghost meaning = { λ s. s };
+    ghost meaning = { list_store_of };
 
     fn read(&mut self) -> Result<Option<Draft>, StoreFault> {
         let step = Step::Read;

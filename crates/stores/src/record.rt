@@ -9,7 +9,6 @@ use table::fixed_table::FixedTable;
 
 mod methods;
 
-// No model: a copy would have to give back the places that do not count, which no record of clauses has.
 #[derive(Clone, Copy)]
 pub struct Compactions {
     version: u64,
