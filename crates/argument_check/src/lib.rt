@@ -21,7 +21,8 @@ use compactions::refusal::Refusal;
 
 mod sourced;
 
-// A missing tree has no views. As `compacted_of`, but for the field that is read.
+// A missing tree has no views. Beside `compacted_of`, which reads the other
+// field: one function for both would take the field as a closure and be longer than the two.
 fn l0_of(tree: Option<&LsmTreeState>) -> &[SsTableView]
     ensures { map view_of result.now ≡ views_of (option_map (λ t. tree_of t.now) tree.entry) }
 {

@@ -21,6 +21,7 @@ pub enum SourceId {
     SstView(Ulid),
 }
 
+// Two structs that share two fields, as the Rust has them, since a drain has no destination.
 #[derive(Clone, Copy)]
 pub struct TieredCompactionSpec {
     pub segment: Rows<u8, 16>,
@@ -141,7 +142,8 @@ impl CompactionSpec {
         }
     }
 
-    // As `sources`, but for the field that is read.
+    // Beside `sources`, which reads the other field: one function for both would take the field as a
+    // closure at each call and be longer than the two.
     pub fn segment(&self) -> &[u8]
         ensures { result.now ≡ spec_segment (spec_of self.now) }
     {

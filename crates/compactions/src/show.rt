@@ -4,6 +4,7 @@ use crate::db_state::{SortedRun, SsTableId, SsTableView};
 use std::fmt;
 
 // With a space between them.
+// Its own to this crate, as `write_each` is to marking: a public one would have to promise what is printed.
 fn write_between<W: fmt::Write, T: fmt::Display>(
     f: &mut fmt::Formatter<W>,
     items: &[T],

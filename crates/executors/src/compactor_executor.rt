@@ -46,9 +46,10 @@ pub trait CompactionExecutor {
     // How many jobs can run at once.
     const PLACES: usize;
 
-    // the constant, as a generic impl knows it; what each `impl` must prove of it
+    // the constant, as a generic impl knows it
     ghost PLACES: { ℕ };
 
+    // what each `impl` must prove of it
     ghost at_least_eight: { 8 ≤ PLACES };
 
     // the same number, eight or more: `place_count` holds the constant to it

@@ -34,7 +34,8 @@ fn with_view(mut run: SortedRun, word: &[u8]) -> Result<SortedRun, Problem>
     Ok(run)
 }
 
-// One word after another, as `with_outputs` of an entry's part: two values, each with its own addition.
+// As `with_outputs` and `subcompaction_in` of an entry's parts: one function for both pairs would take the
+// value, its addition, how a word is read, the problem and a definition for each, and be longer.
 fn with_views(mut run: SortedRun, words: Words<'_>) -> Result<SortedRun, Problem>
     ensures { read_as run_of result ≡ with_views words.entry (run_of run) }
 {

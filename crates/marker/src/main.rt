@@ -7,7 +7,8 @@ use std::io::Read;
 use std::process::ExitCode;
 use std::{env, fs, io};
 
-// Prints the marked paper, or why it is refused; says whether it was marked.
+// Prints the marked paper, or why it is refused; says whether it was marked. A yes or no, since a
+// refused paper is no error of the run, and the papers after it are marked.
 fn mark(rt: &HostRuntime, name: &str, bytes: &[u8]) -> io::Result<bool> {
     match Paper::read(rt.alloc(), bytes) {
         Ok(paper) => {

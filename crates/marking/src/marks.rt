@@ -15,7 +15,7 @@ pub struct Question {
 }
 
 // How many answers are right, of how many.
-#[derive(Clone, Copy)]
+#[derive(Clone, Copy, PartialEq, Eq, Debug)]
 pub struct Marks {
     pub right: usize,
     pub of: usize,

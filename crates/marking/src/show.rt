@@ -16,6 +16,7 @@ fn write_each<W: fmt::Write, T: fmt::Display>(
     Ok(())
 }
 
+// This and the next: two words each, and nothing else that they share.
 fn mark_word(is_set: bool) -> &'static str {
     if is_set { "set" } else { "unset" }
 }

@@ -16,6 +16,7 @@ use problems::error::Problem;
 use problems::expected::InAnswer;
 use std::alloc::Global;
 
+// The heap goes with the words of a line that may need it: words belong to a text that needs none.
 // The line `answer`, once.
 pub(crate) fn read_answer(
     heap: Global,

@@ -43,19 +43,10 @@ fn said_line(heap: Global, answer: Option<Answer>, line: Line<'_>) -> Result<Ans
     }
 }
 
-// By value, so that the halves of the ids are known to be numbers of 64 bits.
-fn is_same(id: Ulid, other: Ulid) -> bool
-    ensures { result ≡ (number id == number other) }
-{
-    id == other
-}
-
 fn has_id(questions: &[Question], id: Ulid) -> bool
     ensures { result ≡ has_id (number id) (map asked_of questions.now) }
 {
-    questions
-        .iter()
-        .any(|question| is_same(question.entry.id, id))
+    questions.iter().any(|question| question.entry.id.is(id))
 }
 
 impl Entries {

@@ -1,5 +1,5 @@
 -- The first line of a text, and a line up to its comment, are where the code cuts them.
-use Rattle.std.proofs.Common.{◌≡◌, ℕ, zero, suc, ◌-◌, ◌≤◌, Bool, true, false, cond, ◌&&◌, eqb, List, [], ◌∷◌, length, get_or, take, Some, None, Option, sym, refl, ap, arith}
+use Rattle.std.proofs.Common.{◌≡◌, ℕ, zero, suc, ◌-◌, ◌<◌, ◌≤◌, Bool, true, false, cond, ◌&&◌, eqb, List, [], ◌∷◌, length, get_or, take, Some, None, Option, sym, refl, ap, arith}
 use Rattle.std.proofs.lemmas.Bool.{cases_Bool, eq-eqb, ne_eqb}
 use Rattle.paper_text.specs.Lines.{parts, with_first, begins, onto, lines, without_return, before_comment}
 
@@ -56,6 +56,16 @@ lines_more (b ∷ bs) x y e = by (parts 10 bs) refl (eqb b 10) refl e (lines_mor
         let f : x ≡ b ∷ (c ∷ u) = ap first_of r in let g : y ≡ v = ap second_of r in
         let i = ih (c ∷ u) v (sym p) in let n = begins_not 10 bs c u v p in let t = cases_Bool (eqb b 13) in
         rw (f, g, n, i) (grind arith)
+
+-- what is behind a mark is shorter
+pub parts_shorter : (mark : ℕ) (bs x y : List ℕ) → Some (x, y) ≡ parts mark bs → length y < length bs
+parts_shorter mark [] x y e = let z : ◌≡◌ {A = ℕ} 0 1 = cc in absurd (omega arith)
+parts_shorter mark (b ∷ bs) x y e = by (parts mark bs) refl (eqb b mark) e (parts_shorter mark bs)
+  where
+    by : (o : Option (List ℕ × List ℕ)) → parts mark bs ≡ o → (t : Bool) → Some (x, y) ≡ cond t (Some ([], bs)) (with_first b o) → ((u v : List ℕ) → Some (u, v) ≡ parts mark bs → length v < length bs) → length y < suc (length bs)
+    by o p true r ih = let g : y ≡ bs = ap second_of r in rw g (omega arith)
+    by None p false r ih = let z : ◌≡◌ {A = ℕ} 0 1 = cc in absurd (omega arith)
+    by (Some w) p false r ih = let g : y ≡ w.1 = ap second_of r in let i = ih w.0 w.1 (sym p) in rw g (omega arith)
 
 -- a line up to its comment
 pub comment_cut : (bs x y : List ℕ) → Some (x, y) ≡ parts 35 bs → x ≡ before_comment bs

@@ -1,5 +1,5 @@
 // The lines of a text, and what of a line is read.
-ghost use Rattle.std.specs.Prelude.{◌≡◌, List, ◌∷◌, ℕ};
+ghost use Rattle.std.specs.Prelude.{◌≡◌, ◌<◌, List, ◌∷◌, ℕ, length, MatchOption};
 ghost use Rattle.std.specs.Iterator.{YieldsFirstBy, item_count};
 ghost use Rattle.std.specs.Option.{option_map};
 ghost use Rattle.paper_text.specs.Lines.{parts, lines, without_return, lines_below, line_after, before_comment, ends_control, has_control};
@@ -29,7 +29,8 @@ pub(crate) fn split_at(bytes: &[u8], mark: u8) -> Option<(&[u8], &[u8])>
 
 // The first line of a text, and the text below it.
 fn first_line(text: &[u8]) -> (&[u8], Option<&[u8]>)
-    ensures { lines text.now ≡ result.0.now ∷ lines_below result.1 }
+    ensures value { lines text.now ≡ result.0.now ∷ lines_below result.1 }
+    ensures shorter { MatchOption result.1 (result.0.now ≡ text.now) (λ below. length below.now < length text.now) }
 {
     match split_at(text, b'\n') {
         Some((line, below)) => (without_return(line), Some(below)),
@@ -54,6 +55,7 @@ impl<'a> Lines<'a> {
     }
 }
 
+// Not the library's split, which leaves the CR of a line in place.
 impl<'a> Iterator for Lines<'a> {
     type Item = &'a [u8];
 
@@ -87,6 +89,7 @@ pub fn before_comment(line: &[u8]) -> &[u8]
 
 // Whether a line has a control character other than the tab, in UTF-8: one byte, or 0xC2 and a
 // second byte for those from U+0080 on.
+// It goes by the byte before, so a walk and no chain over single bytes.
 pub fn has_control(line: &[u8]) -> bool
     ensures { result ≡ has_control line.now }
 {

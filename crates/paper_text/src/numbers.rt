@@ -33,7 +33,8 @@ fn with_digit(value: u128, base: u32, b: u8) -> Option<u128>
         .checked_add(u128::from(next))
 }
 
-// A number of at least one digit below the base, unless it passes 128 bits.
+// A number of at least one digit below the base, unless it passes 128 bits. A `for` with `?`, which says
+// no less than a try_fold.
 fn number(word: &[u8], base: u32) -> Option<u128>
     ensures { result ≡ number_in base word.now }
 {

@@ -55,6 +55,7 @@ impl<'a> Words<'a> {
     }
 }
 
+// Not the library's split with a filter: what is left of it is no text, from which a line is made again.
 impl<'a> Iterator for Words<'a> {
     type Item = &'a [u8];
 

@@ -10,7 +10,7 @@ use std::alloc::{AllocError, AllocFailed};
 use thiserror::Error;
 
 // How many parts a value may have, and the order of prefixes.
-#[derive(Clone, Copy, Debug, Error)]
+#[derive(Clone, Copy, PartialEq, Eq, Debug, Error)]
 pub enum Limit {
     #[error("an entry's segment has at most 16 bytes")]
     EntrySegment,
@@ -36,7 +36,7 @@ pub enum Limit {
     PrefixOrder,
 }
 
-#[derive(Clone, Copy, Debug, Error)]
+#[derive(Clone, Copy, PartialEq, Eq, Debug, Error)]
 pub enum Problem {
     #[error("expected {0}")]
     Paper(InPaper),
@@ -54,7 +54,7 @@ pub enum Problem {
 }
 
 // A problem and its line, counted from 1.
-#[derive(Clone, Copy, Debug, Error)]
+#[derive(Clone, Copy, PartialEq, Eq, Debug, Error)]
 #[error("line {line}: {problem}")]
 pub struct PaperError {
     pub line: usize,

@@ -2,7 +2,7 @@
 use thiserror::Error;
 
 // The text as a whole, and the lines that begin a section.
-#[derive(Clone, Copy, Debug, Error)]
+#[derive(Clone, Copy, PartialEq, Eq, Debug, Error)]
 pub enum InPaper {
     #[error("text in UTF-8")]
     Utf8,
@@ -22,7 +22,7 @@ pub enum InPaper {
     NewEntryId,
 }
 
-#[derive(Clone, Copy, Debug, Error)]
+#[derive(Clone, Copy, PartialEq, Eq, Debug, Error)]
 pub enum InManifest {
     #[error("tick, snapshot, view, run, segment or entry")]
     Keyword,
@@ -42,7 +42,7 @@ pub enum InManifest {
     Segment,
 }
 
-#[derive(Clone, Copy, Debug, Error)]
+#[derive(Clone, Copy, PartialEq, Eq, Debug, Error)]
 pub enum InEntry {
     #[error("segment, source, status, output, worker, context, subcompaction, answer, with or entry")]
     Keyword,
@@ -82,7 +82,7 @@ pub enum InEntry {
     Subcompaction,
 }
 
-#[derive(Clone, Copy, Debug, Error)]
+#[derive(Clone, Copy, PartialEq, Eq, Debug, Error)]
 pub enum InAnswer {
     #[error("passes or refused")]
     Verdict,

@@ -19,7 +19,7 @@ fn one_edit(current: Option<Compactions>, edit: Edit) -> Option<Compactions>
     }
 }
 
-// The record after edits in their order.
+// The record after edits in their order. A `for`: as a fold it proves with one lemma more.
 pub(crate) fn every_edit(current: Option<Compactions>, edits: &[Edit]) -> Option<Compactions>
     ensures { option_map record_of result ≡ all_edited (map edit_of edits.now) (option_map record_of current) }
 {

@@ -14,7 +14,8 @@ pub enum Step {
     Update,
 }
 
-// A call that failed: which kind, and the store's cause, a number that the rules give no cases.
+// A call that failed: which kind, and the cause, a number that a store gives as it likes; 0 is the rules'
+// own, for a version that cannot rise and for a record that is gone.
 #[derive(Clone, Copy, PartialEq, Eq, Debug)]
 pub struct StoreFault {
     pub step: Step,

@@ -1,6 +1,5 @@
-// Up to N items by value: the first `len` places count. Fixed memory, since no call of a worker may fail
-// for want of it; the kit's ArrayVec is no Copy, as the values made of these rows are. An array and a length, since nothing that a
-// worker holds is on the heap.
+// Up to N items by value: the first `len` places count. An array and a length, since no call of a worker
+// may fail for want of memory; the kit's ArrayVec is no Copy, as the values made of these rows are.
 ghost use Rattle.std.specs.Prelude.{◌≡◌, ◌≤◌, length};
 
 mod methods;

@@ -17,7 +17,8 @@ pub(crate) fn place<R: Row>(rows: &[R], id: Ulid) -> usize
         .unwrap_or(rows.len())
 }
 
-// The place of the first row whose id is `id`.
+// The place of the first row whose id is `id`; one past the last where there is none, as `first_with`
+// and std's laws of places have it, so that its callers compare it with the length.
 pub(crate) fn spot<R: Row>(rows: &[R], id: Ulid) -> usize
     ensures { result ≡ first_with (named_so (by R.named) (number id)) rows.now }
 {

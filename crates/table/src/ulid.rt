@@ -1,5 +1,5 @@
 // An id of 128 bits in two halves; the high half is compared first.
-ghost use Rattle.std.specs.Prelude.{◌≡◌};
+ghost use Rattle.std.specs.Prelude.{◌≡◌, Decides, ◌==◌, nat_lt};
 ghost use Rattle.table.specs.Ids.{number, ByNumber};
 
 use std::fmt;
@@ -38,5 +38,22 @@ impl fmt::Display for Ulid {
     fn fmt<W: fmt::Write>(&self, f: &mut fmt::Formatter<W>) -> fmt::Result {
         let number = u128::from(*self);
         write!(f, "{number}")
+    }
+}
+
+// `<` and `==` on ids by value, of which a proof knows that the halves are numbers of 64 bits: of ids
+// behind a reference it does not, so there the numbers need these.
+impl Ulid {
+    pub fn is_before(self, other: Ulid) -> bool
+        ensures { result ≡ nat_lt (number self) (number other) }
+    {
+        self < other
+    }
+
+    pub fn is(self, other: Ulid) -> bool
+        ensures number { result ≡ (number self == number other) }
+        ensures same { Decides result (self ≡ other) }
+    {
+        self == other
     }
 }

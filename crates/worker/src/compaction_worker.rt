@@ -5,7 +5,8 @@
 // fault left behind, and calls that answer what they did.
 //
 // The store and the clock are passed beside one another: a struct that lends both would have to be
-// made anew for each call, and each clause would still name the store's meaning and the clock. That the
+// made anew for each call, and each clause would still name the store's meaning and the clock. A poll's
+// counts go beside them, since they hold after a fault too, when a Result has no place for them. That the
 // settings stay is a clause of its own: with what is held it would be one equality of the whole worker,
 // and what an executor is after a call is not said by the jobs that it runs.
 use crate::owned_jobs::OwnedJobs;

@@ -4,6 +4,7 @@ ghost use Rattle.worker.specs.Notices.{answer_to};
 
 use crate::settling::Settled;
 
+// One word for each answer, as papers have them, so Written and Dropped stand here and in `Settled`.
 // There is no record yet, no notice was there, progress was kept, or the entry of a job that ended
 // was written or dropped.
 #[derive(Clone, Copy, PartialEq, Eq, Debug)]

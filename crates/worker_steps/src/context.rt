@@ -11,13 +11,6 @@ ghost use Rattle.worker_steps.specs.ExtendingLaws.{ExtendingLaws};
 use compactions::compactor_state::{CompactionContext, Subcompaction};
 use compactions::db_state::SsTableId;
 
-// By value, so that the halves of the ids are known to be numbers of 64 bits.
-fn is_same_sst(old: SsTableId, new: SsTableId) -> bool
-    ensures { result ≡ (sst_of old == sst_of new) }
-{
-    old == new
-}
-
 // Whether the old outputs begin the new ones. Not by starts_with, whose contract says nothing of the
 // elements: that equal ids are equal numbers holds of values of 64 bits alone.
 fn outputs_extend(old: &[SsTableId], new: &[SsTableId]) -> bool
@@ -27,7 +20,7 @@ fn outputs_extend(old: &[SsTableId], new: &[SsTableId]) -> bool
         && old
             .iter()
             .zip(new)
-            .all(|(old, new)| is_same_sst(*old, *new))
+            .all(|(old, new)| old.0.is(new.0))
 }
 
 // Whether the range is the same, and no output is lost.

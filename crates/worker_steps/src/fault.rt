@@ -17,7 +17,8 @@ pub enum Work {
     Release,
 }
 
-// A work, the id that it is about, if any, and its attempt; a look has attempt 0.
+// A work, the id that it is about, if any, and its attempt; a look has attempt 0. One struct for every
+// work, as a fault is told in papers and in the definitions: work, id, attempt.
 #[derive(Clone, Copy, PartialEq, Eq, Debug)]
 pub struct During {
     pub work: Work,

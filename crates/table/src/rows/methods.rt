@@ -29,7 +29,8 @@ impl<T: Copy, const N: usize> Rows<T, N> {
         }
     }
 
-    // All of the items, or the given error where there are more than N.
+    // All of the items, or the given error where there are more than N. Rows have fixed memory, so no
+    // chain can collect into them; they are filled by pushes, here and by their users.
     pub fn from_slice<E: Copy>(items: &[T], blank: T, over: E) -> Result<Rows<T, N>, E>
         ensures value { result_err result ≡ (if nat_le (length items.now) N then None else Some over) }
         ensures made { IfOk result (λ rows. items_of rows ≡ items.now) }

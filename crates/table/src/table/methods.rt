@@ -43,6 +43,8 @@ impl<'a, R: Row> Table<'a, R> {
         &self.rows[0..self.len]
     }
 
+    // This, `spot` and `is_at` say of a table's rows what scan's functions say of a slice, so that the
+    // contracts below need not.
     // The place of the first row whose id is not before `id`.
     fn place(&self, id: Ulid) -> usize
         ensures { result ≡ first_with (not_before (by R.named) (number id)) (rows_of self.now) }

@@ -135,7 +135,7 @@ impl<E: CompactionExecutor> CompactionWorker<E> {
         ensures pending { PendingClaim self.new.settings.maximum self.new.held result }
     {
         let capacity = self.owned.capacity();
-        // The form that the project asks of a claim: a loop whose `break` yields the landed claims.
+        // A loop whose `break` yields the landed claims, as docs/DECISIONS.md has it, so it counts attempts.
         let mut attempt = 1;
         let claims = 'attempts: loop {
             match self.attempt_claim(store, clock, capacity, attempt, counts)? {

@@ -1,6 +1,7 @@
 // The making of a worker, and what it shows of itself.
-ghost use Rattle.std.specs.Prelude.{◌≡◌, map};
+ghost use Rattle.std.specs.Prelude.{◌≡◌, ◌≤◌, [], map};
 ghost use Rattle.table.specs.Ids.{number as id-number};
+ghost use Rattle.worker_steps.specs.Tracking.{Tracked};
 ghost use Rattle.worker.specs.Making.{settings_refused, making_refused, Made};
 ghost use Rattle.worker.specs.Meanings.{row_of};
 
@@ -61,9 +62,11 @@ impl<E: CompactionExecutor> CompactionWorker<E> {
         self.owned.rows()
     }
 
-    // The left-behind list, ascending.
+    // The left-behind list, ascending; with the job table it holds what every worker keeps.
     pub fn left_behind(&self) -> &[Ulid]
-        ensures { map id-number result.now ≡ self.now.held.left }
+        ensures value { map id-number result.now ≡ self.now.held.left }
+        ensures tracked { Tracked self.now.settings.maximum [] self.now.held.table self.now.held.left }
+        ensures limits { (1 ≤ self.now.settings.limit) × ((self.now.settings.limit ≤ 64) × (self.now.settings.maximum ≤ 8)) }
     {
         self.owned.listed()
     }

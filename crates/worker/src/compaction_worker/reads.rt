@@ -53,7 +53,7 @@ impl<E: CompactionExecutor> CompactionWorker<E> {
         Ok(draft)
     }
 
-    // The first look: one read unless loaded; says whether there is a record.
+    // The first look: one read unless loaded; says whether there is a record, which is yes or no.
     pub(super) fn ensure_loaded<S: CompactionsStore>(
         &mut self,
         store: &mut S,

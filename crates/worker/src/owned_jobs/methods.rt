@@ -96,7 +96,8 @@ impl OwnedJobs {
     }
 
     pub(crate) fn listed(&self) -> &[Ulid]
-        ensures { map id-number result.now ≡ self.now.left }
+        ensures value { map id-number result.now ≡ self.now.left }
+        ensures tracked { Tracked self.now.maximum [] self.now.table self.now.left }
     {
         self.left_behind.as_slice()
     }
