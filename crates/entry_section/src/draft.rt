@@ -144,6 +144,7 @@ impl Parts {
         Ok(self)
     }
 
+    // This, the worker's and the context's share `once`; what is left of each is its field and its problems.
     fn read_status(mut self, words: Words<'_>) -> Result<Parts, Problem>
         ensures { read_as parts_of result ≡ status_line words.entry (parts_of self) (entry_in self) }
     {

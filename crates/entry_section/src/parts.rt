@@ -102,7 +102,8 @@ pub(crate) fn context_in(word: &[u8]) -> Option<CompactionContext>
     }
 }
 
-// A range's number, then its outputs.
+// A range's number, then its outputs. As `run_in` of a manifest's parts: one function for both would take
+// the value, its addition, how a word is read, the problem and a definition for each, and be longer.
 pub(crate) fn subcompaction_in(mut words: Words<'_>) -> Result<Subcompaction, Problem>
     ensures { read_as sub_of result ≡ sub_in words.entry }
 {
@@ -110,6 +111,7 @@ pub(crate) fn subcompaction_in(mut words: Words<'_>) -> Result<Subcompaction, Pr
     with_outputs(Subcompaction::new(range), words)
 }
 
+// As `with_views` of a manifest's parts, for the same reason.
 fn with_outputs(mut sub: Subcompaction, words: Words<'_>) -> Result<Subcompaction, Problem>
     ensures { read_as sub_of result ≡ with_outputs words.entry (sub_of sub) }
 {

@@ -62,6 +62,7 @@ impl ManifestDraft {
         Ok(ManifestDraft { tree, ..self })
     }
 
+    // This and the next share `once`; what is left of each is its field and its two problems.
     fn read_tick(self, words: Words<'_>) -> Result<ManifestDraft, Problem>
         ensures { read_as begun_of result ≡ tick_line words.entry (begun_of self) }
     {

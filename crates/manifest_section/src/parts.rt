@@ -18,6 +18,8 @@ use paper_text::words::Words;
 use problems::error::{Limit, Problem};
 use problems::expected::InManifest;
 
+// This and the next share what std's `and_then`, `ok_or` and `map_err` share; a tree and a run have their
+// own additions and limits.
 pub(crate) fn read_view(mut tree: LsmTreeState, words: Words<'_>) -> Result<LsmTreeState, Problem>
     ensures { read_as tree_of result ≡ view_line words.entry (tree_of tree) }
 {
@@ -45,7 +47,7 @@ fn with_views(mut run: SortedRun, words: Words<'_>) -> Result<SortedRun, Problem
     Ok(run)
 }
 
-// A run's number, then its views.
+// A run's number, then its views; as `subcompaction_in` of an entry's parts, see `with_views`.
 fn run_in(mut words: Words<'_>) -> Result<SortedRun, Problem>
     ensures { read_as run_of result ≡ run_in words.entry }
 {

@@ -10,7 +10,8 @@ pub enum Edit {
     Remove(Ulid),
 }
 
-// A store that is down does nothing; a lost call acts, but its answer does not arrive.
+// A store that is down does nothing; a lost call acts, but its answer does not arrive. Each has a cause,
+// a number that a store gives as it likes.
 #[derive(Clone, Copy, PartialEq, Eq, Debug)]
 pub enum Outcome {
     Clear,

@@ -18,7 +18,8 @@ pub enum Work {
 }
 
 // A work, the id that it is about, if any, and its attempt; a look has attempt 0. One struct for every
-// work, as a fault is told in papers and in the definitions: work, id, attempt.
+// work, as a fault is told in papers and in the definitions: work, id, attempt. Made by its
+// named fields at each use, which say which is which as a constructor's parameters would not.
 #[derive(Clone, Copy, PartialEq, Eq, Debug)]
 pub struct During {
     pub work: Work,
@@ -37,7 +38,7 @@ pub struct Told {
 pub enum WorkerFault {
     // the store failed
     Store(Told),
-    // the manifest source failed, with this cause
+    // the manifest source failed, with this cause, a number that the source gives as it likes
     Manifest(u32, During),
     // no update landed within the attempt limit
     NotLanded(During),

@@ -59,6 +59,7 @@ impl Compactions {
     }
 
     // The record after someone else put an entry: one version on, unless there is no place or no version left.
+    // It and `with_removed` share `changed_to`; what is left of each is its change.
     pub(crate) fn with_put(self, entry: Compaction) -> Compactions
         ensures { record_of result ≡ put_entry (entry_of entry) (record_of self) }
     {
