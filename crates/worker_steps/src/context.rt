@@ -16,11 +16,7 @@ use compactions::db_state::SsTableId;
 fn outputs_extend(old: &[SsTableId], new: &[SsTableId]) -> bool
     ensures { result ≡ starts_with (map sst_of old.now) (map sst_of new.now) }
 {
-    old.len() <= new.len()
-        && old
-            .iter()
-            .zip(new)
-            .all(|(old, new)| old.0.is(new.0))
+    old.len() <= new.len() && old.iter().zip(new).all(|(old, new)| old.0.is(new.0))
 }
 
 // Whether the range is the same, and no output is lost.
