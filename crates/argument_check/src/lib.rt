@@ -44,7 +44,7 @@ fn is_last_run(tree: Option<&LsmTreeState>, destination: u32) -> bool
         return false;
     };
     let last = tree.compacted.as_slice().last();
-    last.is_none_or(|run| destination == run.id)
+    last.map_or(true, |run| destination == run.id)
 }
 
 pub fn build_job_args(

@@ -2,6 +2,7 @@
 ghost use Rattle.std.specs.Prelude.{◌≡◌, true, [], map, vec_items};
 ghost use Rattle.std.specs.Option.{option_map};
 ghost use Rattle.compactions.specs.Meanings.{view_of};
+ghost use Rattle.marking.specs.declared.answer.Part.TheVariants as parts;
 ghost use Rattle.problems.specs.Lines.{sufficed};
 ghost use Rattle.problems.specs.Outcomes.{read_as, or_else};
 ghost use Rattle.problems.specs.declared.error.Problem.TheVariants as problems;
@@ -89,9 +90,10 @@ fn part_named(word: &[u8]) -> Option<Part>
     }
 }
 
-// What the words behind it say of a part.
+// What the words behind it say of a part. Only a part that is a list needs memory.
 fn claim_on(heap: Global, part: Part, words: Words<'_>) -> Result<Claim, Problem>
-    ensures { sufficed result ≡ true → read_as said_of result ≡ part_by words.entry part }
+    ensures value { sufficed result ≡ true → read_as said_of result ≡ part_by words.entry part }
+    ensures no_list { (part ≡ parts.Views → ⊥) → (part ≡ parts.Runs → ⊥) → read_as said_of result ≡ part_by words.entry part }
 {
     match part {
         Part::Destination => claimed(

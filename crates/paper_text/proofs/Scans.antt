@@ -1,14 +1,14 @@
 -- Scans over bytes.
 use Rattle.std.proofs.Common.{◌≡◌, ℕ, zero, suc, ◌+◌, ◌-◌, ◌<◌, Bool, not, eqb, List, [], ◌∷◌, length, get_or, take, drop, Some, None, Option, refl, sym, add-one, arith}
 use mathlib.Core.Bool.{beq}
-use Rattle.std.specs.List.{position, position_or_len, filter}
+use Rattle.std.specs.List.{position, position_or_len}
 use Rattle.std.specs.Option.{unwrap_or}
 use Rattle.std.proofs.lemmas.Bool.{cases_Bool, eq-eqb, ne_eqb}
 use Rattle.std.proofs.lemmas.List.{take_rest}
 use Rattle.std.proofs.lemmas.List.Sums.{prefix_len-le-length}
 use Rattle.std.proofs.lemmas.Bool.Decides.{nat_tests}
 use Rattle.std.proofs.lemmas.List.Recursion.{is_position_or_len}
-use Rattle.paper_text.specs.Lines.{parts, line_after}
+use Rattle.paper_text.specs.Lines.{parts}
 use Rattle.paper_text.specs.Words.{is_blank, leading}
 
 -- the parts at the first mark, which is at i
@@ -40,8 +40,3 @@ pub leading_found : (blank : Bool) (bs : List ℕ) (r : Option ℕ) → r ≡ po
 leading_found blank bs r e =
     let n = prefix_len-le-length (λ b. not (not (beq (is_blank b) blank))) bs in
     rw (e, leading_is blank bs) (grind (arith, nat_tests))
-
--- a line more for each LF
-pub line_after_is : (bs : List ℕ) → 1 + length (filter (λ b. eqb b 10) bs) ≡ line_after bs
-line_after_is [] = refl
-line_after_is (b ∷ bs) = let ih = line_after_is bs in let t = cases_Bool (eqb b 10) in grind arith

@@ -64,6 +64,10 @@ tracks_elim max t l e s u =
       fits = omega (arith, fits);
     }
 
+-- nothing is tracked in an empty table and an empty list
+pub tracked_none : (max : ℕ) → Tracked max [] [] []
+tracked_none max = record { table_ascending = tt; left_ascending = tt; pending_ascending = tt; table_left = λ i h. refl; table_pending = λ i h. refl; left_pending = λ i h. refl; room = omega arith; fits = omega arith }
+
 -- ids that ascend by their meanings
 pub list_ascends : (l : List Ulid) → ascends (by (λ u. u)) l ≡ true → Ascending self_id (map number l)
 list_ascends l e = ascending_from self_id (map number l) (sym (ascends-map number self_id l) ∙ e)

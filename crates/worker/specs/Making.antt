@@ -3,6 +3,7 @@ use Rattle.std.specs.Prelude.{◌≡◌, ℕ, false, ◌&&◌, List, [], Some, N
 use Rattle.compactions.specs.Jobs.{Args}
 use Rattle.compactions.specs.Refusals.{number_of, unless_either}
 use Rattle.worker_steps.specs.States.{Settings}
+use Rattle.worker.specs.Worker.{held_of, settings_of}
 use Rattle.worker.specs.declared.compaction_worker.CompactionWorker.{CompactionWorker}
 use Rattle.worker.specs.declared.making.Unmade.{Unmade}
 
@@ -17,5 +18,5 @@ making_refused (Err u) = Some (number_of u.refusal)
 
 -- a worker that was just made holds nothing; a refused making hands the executor back as it was
 abbrev pub Made : {E : Type 0} → (E → List Args) → Settings → E → Result (CompactionWorker E) (Unmade E) → Type 0
-Made jobs s e (Ok w) = (w.settings ≡ s) × (w.held ≡ record { loaded = false; table = []; left = []; jobs = [] }) × (jobs w.executor ≡ [])
+Made jobs s e (Ok w) = (settings_of s.places w ≡ s) × (held_of (jobs w.executor) w ≡ record { loaded = false; table = []; left = []; jobs = [] })
 Made jobs s e (Err u) = u.executor ≡ e

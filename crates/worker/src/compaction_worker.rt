@@ -10,7 +10,6 @@
 // settings stay is a clause of its own: with what is held it would be one equality of the whole worker,
 // and what an executor is after a call is not said by the jobs that it runs.
 use crate::owned_jobs::OwnedJobs;
-use executors::compactor_executor::CompactionExecutor;
 use std::marker::Model;
 
 mod choice;
@@ -25,7 +24,7 @@ mod reads;
 mod release;
 
 #[derive(Drop)]
-pub struct CompactionWorker<E: CompactionExecutor> {
+pub struct CompactionWorker<E> {
     number: u32,
     limit: u32,
     loaded: bool,
@@ -33,13 +32,14 @@ pub struct CompactionWorker<E: CompactionExecutor> {
     executor: E,
 }
 
-impl<E: CompactionExecutor> Model for CompactionWorker<E> {
-    ghost use Rattle.std.specs.Prelude.{◌≤◌};
+impl<E> Model for CompactionWorker<E> {
+    ghost use Rattle.std.specs.Prelude.{◌≤◌, []};
+    ghost use Rattle.worker_steps.specs.Tracking.{Tracked};
     ghost use Rattle.worker.specs.Worker.{Worker};
 
     ghost Value = { Worker E };
 
-    ghost view = { λ w. record { settings = record { number = w.number; maximum = w.owned.maximum; limit = w.limit; places = E.places.count }; held = record { loaded = w.loaded; table = w.owned.table; left = w.owned.left; jobs = (E.jobs w.executor).list }; executor = w.executor } };
+    ghost view = { λ w. record { number = w.number; maximum = w.owned.maximum; limit = w.limit; loaded = w.loaded; table = w.owned.table; left = w.owned.left; executor = w.executor } };
 
-    ghost invariant = { λ w. (1 ≤ w.limit) × ((w.limit ≤ 64) × (w.owned.maximum ≤ 8)) };
+    ghost invariant = { λ w. (1 ≤ w.limit) × ((w.limit ≤ 64) × ((w.owned.maximum ≤ 8) × Tracked w.owned.maximum [] w.owned.table w.owned.left)) };
 }

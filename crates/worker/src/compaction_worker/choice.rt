@@ -9,6 +9,7 @@ ghost use Rattle.stores.specs.Meanings.{draft_of};
 ghost use Rattle.worker_steps.specs.States.{row_id, with_jobs};
 ghost use Rattle.worker_steps.specs.Claims.{walked};
 ghost use Rattle.worker.specs.Claims.{chosen_of, going_on};
+ghost use Rattle.worker.specs.Worker.{held_of, settings_of};
 
 use super::CompactionWorker;
 use crate::claims::Chosen;
@@ -22,8 +23,8 @@ use table::ulid::Ulid;
 impl<E: CompactionExecutor> CompactionWorker<E> {
     // Ends the job of an id, and strikes its row.
     pub(super) fn stop_compaction_job(&mut self, id: Ulid)
-        ensures held { self.new.held ≡ with_jobs self.old.held (strike row_id (id-number id) self.old.held.table) (strike job_id (id-number id) self.old.held.jobs) }
-        ensures settings { self.new.settings ≡ self.old.settings }
+        ensures held { held_of (E.jobs self.new.executor).list self.new ≡ with_jobs (held_of (E.jobs self.old.executor).list self.old) (strike row_id (id-number id) self.old.table) (strike job_id (id-number id) (E.jobs self.old.executor).list) }
+        ensures settings { settings_of E.places.count self.new ≡ settings_of E.places.count self.old }
     {
         self.executor.stop_compaction_job(id);
         self.owned.strike_row(id);
@@ -35,9 +36,9 @@ impl<E: CompactionExecutor> CompactionWorker<E> {
         requires small { capacity ≤ 8 }
         requires few { chosen.old.stopped < 32 }
         requires within { length (chosen_of chosen.old) ≤ capacity }
-        ensures walk { (es : List Entry) → going_on (chosen_of chosen.new) chosen.new.stopped (walked es (capacity - length (chosen_of chosen.new)) self.new.held.table self.new.held.jobs) ≡ going_on (chosen_of chosen.old) chosen.old.stopped (walked (entry_of entry.now ∷ es) (capacity - length (chosen_of chosen.old)) self.old.held.table self.old.held.jobs) }
-        ensures held { self.new.held ≡ with_jobs self.old.held self.new.held.table self.new.held.jobs }
-        ensures settings { self.new.settings ≡ self.old.settings }
+        ensures walk { (es : List Entry) → going_on (chosen_of chosen.new) chosen.new.stopped (walked es (capacity - length (chosen_of chosen.new)) self.new.table (E.jobs self.new.executor).list) ≡ going_on (chosen_of chosen.old) chosen.old.stopped (walked (entry_of entry.now ∷ es) (capacity - length (chosen_of chosen.old)) self.old.table (E.jobs self.old.executor).list) }
+        ensures held { held_of (E.jobs self.new.executor).list self.new ≡ with_jobs (held_of (E.jobs self.old.executor).list self.old) self.new.table (E.jobs self.new.executor).list }
+        ensures settings { settings_of E.places.count self.new ≡ settings_of E.places.count self.old }
         ensures stopped { chosen.new.stopped ≤ suc chosen.old.stopped }
         ensures within { length (chosen_of chosen.new) ≤ capacity }
     {
@@ -55,10 +56,10 @@ impl<E: CompactionExecutor> CompactionWorker<E> {
     // The entries to claim, in ascending order of their ids.
     pub(super) fn choose(&mut self, draft: &Draft, capacity: usize) -> Chosen
         requires { capacity ≤ 8 }
-        ensures chosen { chosen_of result ≡ (walked (draft_of draft.now).entries capacity self.old.held.table self.old.held.jobs).chosen }
-        ensures stopped { result.stopped ≡ (walked (draft_of draft.now).entries capacity self.old.held.table self.old.held.jobs).stopped }
-        ensures held { self.new.held ≡ with_jobs self.old.held (walked (draft_of draft.now).entries capacity self.old.held.table self.old.held.jobs).table (walked (draft_of draft.now).entries capacity self.old.held.table self.old.held.jobs).jobs }
-        ensures settings { self.new.settings ≡ self.old.settings }
+        ensures chosen { chosen_of result ≡ (walked (draft_of draft.now).entries capacity self.old.table (E.jobs self.old.executor).list).chosen }
+        ensures stopped { result.stopped ≡ (walked (draft_of draft.now).entries capacity self.old.table (E.jobs self.old.executor).list).stopped }
+        ensures held { held_of (E.jobs self.new.executor).list self.new ≡ with_jobs (held_of (E.jobs self.old.executor).list self.old) (walked (draft_of draft.now).entries capacity self.old.table (E.jobs self.old.executor).list).table (walked (draft_of draft.now).entries capacity self.old.table (E.jobs self.old.executor).list).jobs }
+        ensures settings { settings_of E.places.count self.new ≡ settings_of E.places.count self.old }
         ensures few { result.stopped ≤ 32 }
     {
         let mut chosen = Chosen::new();

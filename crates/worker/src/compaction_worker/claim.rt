@@ -12,6 +12,7 @@ ghost use Rattle.worker_steps.specs.Tracking.{Tracked};
 ghost use Rattle.worker_steps.specs.Claims.{claimed_as, claim_draft, joined, claim_attempt, claiming};
 ghost use Rattle.worker.specs.Claims.{waiting};
 ghost use Rattle.worker.specs.Polls.{counts_of, turn_of, turn_end, counted_turn, claim_of, claim_end, counted_claim, PendingTurn, PendingClaim};
+ghost use Rattle.worker.specs.Worker.{held_of, settings_of};
 
 use super::CompactionWorker;
 use crate::claims::{Chosen, Claims};
@@ -46,18 +47,18 @@ fn mark_running(draft: &mut Draft, chosen: &[Compaction], worker: WorkerSpec)
 impl<E: CompactionExecutor> CompactionWorker<E> {
     // A pending id joins the left-behind list.
     pub(super) fn leave(&mut self, id: Ulid)
-        requires { Tracked self.old.settings.maximum (id-number id ∷ []) self.old.held.table self.old.held.left }
-        ensures held { self.new.held ≡ with_left self.old.held (put self_id (id-number id) self.old.held.left) }
-        ensures settings { self.new.settings ≡ self.old.settings }
+        requires { Tracked self.old.maximum (id-number id ∷ []) self.old.table self.old.left }
+        ensures held { held_of (E.jobs self.new.executor).list self.new ≡ with_left (held_of (E.jobs self.old.executor).list self.old) (put self_id (id-number id) self.old.left) }
+        ensures settings { settings_of E.places.count self.new ≡ settings_of E.places.count self.old }
     {
         self.owned.leave(id);
     }
 
     // Each claim that waits joins the left-behind list.
     pub(super) fn leave_all(&mut self, mut claims: Claims)
-        requires { Tracked self.old.settings.maximum (map entry_id (waiting claims)) self.old.held.table self.old.held.left }
-        ensures held { self.new.held ≡ with_left self.old.held (joined (waiting claims) self.old.held.left) }
-        ensures settings { self.new.settings ≡ self.old.settings }
+        requires { Tracked self.old.maximum (map entry_id (waiting claims)) self.old.table self.old.left }
+        ensures held { held_of (E.jobs self.new.executor).list self.new ≡ with_left (held_of (E.jobs self.old.executor).list self.old) (joined (waiting claims) self.old.left) }
+        ensures settings { settings_of E.places.count self.new ≡ settings_of E.places.count self.old }
     {
         while let Some(claim) = claims.take() {
             self.leave(claim.spend());
@@ -76,16 +77,16 @@ impl<E: CompactionExecutor> CompactionWorker<E> {
         counts: &mut PollCounts,
     ) -> Result<ClaimTurn, WorkerFault>
         requires small { capacity ≤ 8 }
-        requires tracked { Tracked self.old.settings.maximum [] self.old.held.table self.old.held.left }
-        requires room { capacity + length self.old.held.table ≤ self.old.settings.maximum }
+        requires tracked { Tracked self.old.maximum [] self.old.table self.old.left }
+        requires room { capacity + length self.old.table ≤ self.old.maximum }
         requires few { (counts.old.stopped ≤ 32 * attempt) × (attempt ≤ 64) }
         requires fresh { (counts.old.claimed ≡ 0) × (counts.old.left ≡ 0) }
-        ensures answer { (ms : List (Result Manifest ℕ)) → turn_of attempt result ≡ turn_end (claim_attempt self.old.settings capacity attempt (state self.old.held (S.meaning store.old) clock.old ms)).result }
-        ensures counts { (ms : List (Result Manifest ℕ)) → counts_of counts.new ≡ counted_turn (counts_of counts.old) (claim_attempt self.old.settings capacity attempt (state self.old.held (S.meaning store.old) clock.old ms)).result (claim_attempt self.old.settings capacity attempt (state self.old.held (S.meaning store.old) clock.old ms)).stopped }
-        ensures after { (ms : List (Result Manifest ℕ)) → state self.new.held (S.meaning store.new) clock.new ms ≡ (claim_attempt self.old.settings capacity attempt (state self.old.held (S.meaning store.old) clock.old ms)).state }
-        ensures settings { self.new.settings ≡ self.old.settings }
-        ensures pending { PendingTurn self.new.settings.maximum self.new.held result }
-        ensures room { capacity + length self.new.held.table ≤ self.new.settings.maximum }
+        ensures answer { (ms : List (Result Manifest ℕ)) → turn_of attempt result ≡ turn_end (claim_attempt (settings_of E.places.count self.old) capacity attempt (state (held_of (E.jobs self.old.executor).list self.old) (S.meaning store.old) clock.old ms)).result }
+        ensures counts { (ms : List (Result Manifest ℕ)) → counts_of counts.new ≡ counted_turn (counts_of counts.old) (claim_attempt (settings_of E.places.count self.old) capacity attempt (state (held_of (E.jobs self.old.executor).list self.old) (S.meaning store.old) clock.old ms)).result (claim_attempt (settings_of E.places.count self.old) capacity attempt (state (held_of (E.jobs self.old.executor).list self.old) (S.meaning store.old) clock.old ms)).stopped }
+        ensures after { (ms : List (Result Manifest ℕ)) → state (held_of (E.jobs self.new.executor).list self.new) (S.meaning store.new) clock.new ms ≡ (claim_attempt (settings_of E.places.count self.old) capacity attempt (state (held_of (E.jobs self.old.executor).list self.old) (S.meaning store.old) clock.old ms)).state }
+        ensures settings { settings_of E.places.count self.new ≡ settings_of E.places.count self.old }
+        ensures pending { PendingTurn self.new.maximum (held_of (E.jobs self.new.executor).list self.new) result }
+        ensures room { capacity + length self.new.table ≤ self.new.maximum }
         ensures few { counts.new.stopped ≤ 32 * (attempt + 1) }
     {
         let during = During {
@@ -128,11 +129,11 @@ impl<E: CompactionExecutor> CompactionWorker<E> {
         counts: &mut PollCounts,
     ) -> Result<Option<LandedClaims>, WorkerFault>
         requires { (counts.old.claimed ≡ 0) × ((counts.old.left ≡ 0) × (counts.old.stopped ≡ 0)) }
-        ensures answer { (ms : List (Result Manifest ℕ)) → claim_of result ≡ claim_end (claiming self.old.settings (self.old.settings.maximum - length self.old.held.table) (state self.old.held (S.meaning store.old) clock.old ms)).result }
-        ensures counts { (ms : List (Result Manifest ℕ)) → counts_of counts.new ≡ counted_claim (counts_of counts.old) (claiming self.old.settings (self.old.settings.maximum - length self.old.held.table) (state self.old.held (S.meaning store.old) clock.old ms)).result (claiming self.old.settings (self.old.settings.maximum - length self.old.held.table) (state self.old.held (S.meaning store.old) clock.old ms)).stopped }
-        ensures after { (ms : List (Result Manifest ℕ)) → state self.new.held (S.meaning store.new) clock.new ms ≡ (claiming self.old.settings (self.old.settings.maximum - length self.old.held.table) (state self.old.held (S.meaning store.old) clock.old ms)).state }
-        ensures settings { self.new.settings ≡ self.old.settings }
-        ensures pending { PendingClaim self.new.settings.maximum self.new.held result }
+        ensures answer { (ms : List (Result Manifest ℕ)) → claim_of result ≡ claim_end (claiming (settings_of E.places.count self.old) (self.old.maximum - length self.old.table) (state (held_of (E.jobs self.old.executor).list self.old) (S.meaning store.old) clock.old ms)).result }
+        ensures counts { (ms : List (Result Manifest ℕ)) → counts_of counts.new ≡ counted_claim (counts_of counts.old) (claiming (settings_of E.places.count self.old) (self.old.maximum - length self.old.table) (state (held_of (E.jobs self.old.executor).list self.old) (S.meaning store.old) clock.old ms)).result (claiming (settings_of E.places.count self.old) (self.old.maximum - length self.old.table) (state (held_of (E.jobs self.old.executor).list self.old) (S.meaning store.old) clock.old ms)).stopped }
+        ensures after { (ms : List (Result Manifest ℕ)) → state (held_of (E.jobs self.new.executor).list self.new) (S.meaning store.new) clock.new ms ≡ (claiming (settings_of E.places.count self.old) (self.old.maximum - length self.old.table) (state (held_of (E.jobs self.old.executor).list self.old) (S.meaning store.old) clock.old ms)).state }
+        ensures settings { settings_of E.places.count self.new ≡ settings_of E.places.count self.old }
+        ensures pending { PendingClaim self.new.maximum (held_of (E.jobs self.new.executor).list self.new) result }
     {
         let capacity = self.owned.capacity();
         // A loop whose `break` yields the landed claims, as docs/DECISIONS.md has it, so it counts attempts.

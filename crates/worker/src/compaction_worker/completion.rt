@@ -8,6 +8,7 @@ ghost use Rattle.worker_steps.specs.States.{state};
 ghost use Rattle.worker_steps.specs.Completions.{ssts, completed_as, completing};
 ghost use Rattle.worker.specs.EntryWorks.{the_completion};
 ghost use Rattle.worker.specs.Settling.{settled_of};
+ghost use Rattle.worker.specs.Worker.{held_of, settings_of};
 
 use super::CompactionWorker;
 use crate::entry_work::EntryWork;
@@ -73,9 +74,9 @@ impl<E: CompactionExecutor> CompactionWorker<E> {
         id: Ulid,
         run: &SortedRun,
     ) -> Result<Settled, WorkerFault>
-        ensures answer { (ms : List (Result Manifest ℕ)) → settled_of result ≡ (completing self.old.settings (id-number id) (ssts (run_of run.now)) (state self.old.held (S.meaning store.old) clock.old ms)).result }
-        ensures after { (ms : List (Result Manifest ℕ)) → state self.new.held (S.meaning store.new) clock.new ms ≡ (completing self.old.settings (id-number id) (ssts (run_of run.now)) (state self.old.held (S.meaning store.old) clock.old ms)).state }
-        ensures settings { self.new.settings ≡ self.old.settings }
+        ensures answer { (ms : List (Result Manifest ℕ)) → settled_of result ≡ (completing (settings_of E.places.count self.old) (id-number id) (ssts (run_of run.now)) (state (held_of (E.jobs self.old.executor).list self.old) (S.meaning store.old) clock.old ms)).result }
+        ensures after { (ms : List (Result Manifest ℕ)) → state (held_of (E.jobs self.new.executor).list self.new) (S.meaning store.new) clock.new ms ≡ (completing (settings_of E.places.count self.old) (id-number id) (ssts (run_of run.now)) (state (held_of (E.jobs self.old.executor).list self.old) (S.meaning store.old) clock.old ms)).state }
+        ensures settings { settings_of E.places.count self.new ≡ settings_of E.places.count self.old }
     {
         let completion = Completion {
             outputs: ssts_of(run),

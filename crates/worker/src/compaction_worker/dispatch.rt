@@ -10,6 +10,7 @@ ghost use Rattle.worker_steps.specs.Polls.{may_run, with_started, dispatching};
 ghost use Rattle.worker.specs.Claims.{waiting};
 ghost use Rattle.worker.specs.Dispatches.{given_back, SettleStep, dispatch_of};
 ghost use Rattle.worker.specs.Polls.{counts_of};
+ghost use Rattle.worker.specs.Worker.{held_of, settings_of};
 
 use super::CompactionWorker;
 use crate::claims::{Claim, Claims};
@@ -27,10 +28,10 @@ impl<E: CompactionExecutor> CompactionWorker<E> {
     // Starts a claimed entry and adds its row, if it passes the argument check and the executor says
     // yes; else the claim comes back.
     fn start(&mut self, claim: Claim, manifest: &Manifest) -> Result<(), Claim>
-        requires { Tracked self.old.settings.maximum ((entry_of claim.entry).id ∷ []) self.old.held.table self.old.held.left }
-        ensures answer { given_back result ≡ (if may_run self.old.settings.places (job_args (entry_of claim.entry) (manifest_of manifest.now)) self.old.held.jobs then None else Some (entry_of claim.entry)) }
-        ensures held { self.new.held ≡ (if may_run self.old.settings.places (job_args (entry_of claim.entry) (manifest_of manifest.now)) self.old.held.jobs then with_started (entry_of claim.entry) (job_args (entry_of claim.entry) (manifest_of manifest.now)) self.old.held else self.old.held) }
-        ensures settings { self.new.settings ≡ self.old.settings }
+        requires { Tracked self.old.maximum ((entry_of claim.entry).id ∷ []) self.old.table self.old.left }
+        ensures answer { given_back result ≡ (if may_run E.places.count (job_args (entry_of claim.entry) (manifest_of manifest.now)) (E.jobs self.old.executor).list then None else Some (entry_of claim.entry)) }
+        ensures held { held_of (E.jobs self.new.executor).list self.new ≡ (if may_run E.places.count (job_args (entry_of claim.entry) (manifest_of manifest.now)) (E.jobs self.old.executor).list then with_started (entry_of claim.entry) (job_args (entry_of claim.entry) (manifest_of manifest.now)) (held_of (E.jobs self.old.executor).list self.old) else held_of (E.jobs self.old.executor).list self.old) }
+        ensures settings { settings_of E.places.count self.new ≡ settings_of E.places.count self.old }
     {
         let entry = *claim.entry();
         let Ok(args) = build_job_args(&entry, manifest) else {
@@ -55,10 +56,10 @@ impl<E: CompactionExecutor> CompactionWorker<E> {
         claim: Claim,
         counts: &mut PollCounts,
     ) -> Result<(), Unreleased>
-        requires pending { Tracked self.old.settings.maximum ((entry_of claim.entry).id ∷ []) self.old.held.table self.old.held.left }
+        requires pending { Tracked self.old.maximum ((entry_of claim.entry).id ∷ []) self.old.table self.old.left }
         requires few { counts.old.started + counts.old.let_go ≤ 8 }
-        ensures step { SettleStep self.old.settings (manifest_of manifest.now) (entry_of claim.entry) result self.old.held (S.meaning store.old) clock.old (counts_of counts.old) self.new.held (S.meaning store.new) clock.new (counts_of counts.new) }
-        ensures settings { self.new.settings ≡ self.old.settings }
+        ensures step { SettleStep (settings_of E.places.count self.old) (manifest_of manifest.now) (entry_of claim.entry) result (held_of (E.jobs self.old.executor).list self.old) (S.meaning store.old) clock.old (counts_of counts.old) (held_of (E.jobs self.new.executor).list self.new) (S.meaning store.new) clock.new (counts_of counts.new) }
+        ensures settings { settings_of E.places.count self.new ≡ settings_of E.places.count self.old }
     {
         // no `?` and no map_err: each arm spends the claim, or hands it back
         match self.start(claim, manifest) {
@@ -87,12 +88,12 @@ impl<E: CompactionExecutor> CompactionWorker<E> {
         mut claims: Claims,
         counts: &mut PollCounts,
     ) -> Result<(), WorkerFault>
-        requires pending { Tracked self.old.settings.maximum (map entry_id (waiting claims)) self.old.held.table self.old.held.left }
+        requires pending { Tracked self.old.maximum (map entry_id (waiting claims)) self.old.table self.old.left }
         requires fresh { (counts.old.started ≡ 0) × ((counts.old.let_go ≡ 0) × (counts.old.left ≡ 0)) }
-        ensures answer { (ms : List (Result ManifestMeaning ℕ)) → dispatch_of result (counts_of counts.new) ≡ (dispatching self.old.settings (manifest_of manifest.now) (waiting claims) (state self.old.held (S.meaning store.old) clock.old ms)).result }
-        ensures after { (ms : List (Result ManifestMeaning ℕ)) → state self.new.held (S.meaning store.new) clock.new ms ≡ (dispatching self.old.settings (manifest_of manifest.now) (waiting claims) (state self.old.held (S.meaning store.old) clock.old ms)).state }
+        ensures answer { (ms : List (Result ManifestMeaning ℕ)) → dispatch_of result (counts_of counts.new) ≡ (dispatching (settings_of E.places.count self.old) (manifest_of manifest.now) (waiting claims) (state (held_of (E.jobs self.old.executor).list self.old) (S.meaning store.old) clock.old ms)).result }
+        ensures after { (ms : List (Result ManifestMeaning ℕ)) → state (held_of (E.jobs self.new.executor).list self.new) (S.meaning store.new) clock.new ms ≡ (dispatching (settings_of E.places.count self.old) (manifest_of manifest.now) (waiting claims) (state (held_of (E.jobs self.old.executor).list self.old) (S.meaning store.old) clock.old ms)).state }
         ensures claimed { (counts.new.claimed ≡ counts.old.claimed) × (counts.new.stopped ≡ counts.old.stopped) }
-        ensures settings { self.new.settings ≡ self.old.settings }
+        ensures settings { settings_of E.places.count self.new ≡ settings_of E.places.count self.old }
     {
         while let Some(claim) = claims.take() {
             if let Err(unreleased) = self.settle(store, clock, manifest, claim, counts) {

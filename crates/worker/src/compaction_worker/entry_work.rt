@@ -5,6 +5,7 @@ ghost use Rattle.compactions.specs.Trees.{Manifest};
 ghost use Rattle.worker_steps.specs.States.{state};
 ghost use Rattle.worker.specs.EntryWorks.{entry_attempt, entry_work};
 ghost use Rattle.worker.specs.Settling.{settle_turn_of, settled_of};
+ghost use Rattle.worker.specs.Worker.{held_of, settings_of};
 
 use super::CompactionWorker;
 use crate::entry_work::EntryWork;
@@ -25,9 +26,9 @@ impl<E: CompactionExecutor> CompactionWorker<E> {
         id: Ulid,
         attempt: u32,
     ) -> Result<Option<Settled>, WorkerFault>
-        ensures answer { (ms : List (Result Manifest ℕ)) → settle_turn_of result ≡ (entry_attempt (W.steps work.now) self.old.settings (id-number id) attempt (state self.old.held (S.meaning store.old) clock.old ms)).result }
-        ensures after { (ms : List (Result Manifest ℕ)) → state self.new.held (S.meaning store.new) clock.new ms ≡ (entry_attempt (W.steps work.now) self.old.settings (id-number id) attempt (state self.old.held (S.meaning store.old) clock.old ms)).state }
-        ensures settings { self.new.settings ≡ self.old.settings }
+        ensures answer { (ms : List (Result Manifest ℕ)) → settle_turn_of result ≡ (entry_attempt (W.steps work.now) (settings_of E.places.count self.old) (id-number id) attempt (state (held_of (E.jobs self.old.executor).list self.old) (S.meaning store.old) clock.old ms)).result }
+        ensures after { (ms : List (Result Manifest ℕ)) → state (held_of (E.jobs self.new.executor).list self.new) (S.meaning store.new) clock.new ms ≡ (entry_attempt (W.steps work.now) (settings_of E.places.count self.old) (id-number id) attempt (state (held_of (E.jobs self.old.executor).list self.old) (S.meaning store.old) clock.old ms)).state }
+        ensures settings { settings_of E.places.count self.new ≡ settings_of E.places.count self.old }
     {
         let during = During {
             work: work.work(),
@@ -50,9 +51,9 @@ impl<E: CompactionExecutor> CompactionWorker<E> {
         work: &W,
         id: Ulid,
     ) -> Result<Settled, WorkerFault>
-        ensures answer { (ms : List (Result Manifest ℕ)) → settled_of result ≡ (entry_work (W.steps work.now) self.old.settings (id-number id) (state self.old.held (S.meaning store.old) clock.old ms)).result }
-        ensures after { (ms : List (Result Manifest ℕ)) → state self.new.held (S.meaning store.new) clock.new ms ≡ (entry_work (W.steps work.now) self.old.settings (id-number id) (state self.old.held (S.meaning store.old) clock.old ms)).state }
-        ensures settings { self.new.settings ≡ self.old.settings }
+        ensures answer { (ms : List (Result Manifest ℕ)) → settled_of result ≡ (entry_work (W.steps work.now) (settings_of E.places.count self.old) (id-number id) (state (held_of (E.jobs self.old.executor).list self.old) (S.meaning store.old) clock.old ms)).result }
+        ensures after { (ms : List (Result Manifest ℕ)) → state (held_of (E.jobs self.new.executor).list self.new) (S.meaning store.new) clock.new ms ≡ (entry_work (W.steps work.now) (settings_of E.places.count self.old) (id-number id) (state (held_of (E.jobs self.old.executor).list self.old) (S.meaning store.old) clock.old ms)).state }
+        ensures settings { settings_of E.places.count self.new ≡ settings_of E.places.count self.old }
     {
         let limit = self.limit;
         for attempt in 1..=limit {

@@ -1,5 +1,5 @@
 // The making of a worker, and what it shows of itself.
-ghost use Rattle.std.specs.Prelude.{◌≡◌, ◌≤◌, [], map};
+ghost use Rattle.std.specs.Prelude.{◌≡◌, ◌≤◌, [], map, IfOk};
 ghost use Rattle.table.specs.Ids.{number as id-number};
 ghost use Rattle.worker_steps.specs.Tracking.{Tracked};
 ghost use Rattle.worker.specs.Making.{settings_refused, making_refused, Made};
@@ -24,6 +24,8 @@ impl<E: CompactionExecutor> CompactionWorker<E> {
     ) -> Result<CompactionWorker<E>, Unmade<E>>
         ensures refused { making_refused result ≡ settings_refused maximum limit }
         ensures made { Made (λ e. (E.jobs e).list) (record { number = number; maximum = maximum; limit = limit; places = E.places.count }) executor result }
+        ensures tracked { IfOk result (λ w. Tracked w.maximum [] w.table w.left) }
+        ensures limits { IfOk result (λ w. (1 ≤ w.limit) × ((w.limit ≤ 64) × (w.maximum ≤ 8))) }
     {
         if maximum > 8 {
             return Err(Unmade {
@@ -50,32 +52,33 @@ impl<E: CompactionExecutor> CompactionWorker<E> {
 
     // Whether a record was found.
     pub fn is_loaded(&self) -> bool
-        ensures { result ≡ self.now.held.loaded }
+        ensures value { result ≡ self.now.loaded }
+        ensures tracked { Tracked self.now.maximum [] self.now.table self.now.left }
+        ensures limits { (1 ≤ self.now.limit) × ((self.now.limit ≤ 64) × (self.now.maximum ≤ 8)) }
     {
         self.loaded
     }
 
     // The job table, ascending by id.
     pub fn job_progress(&self) -> &[Progress]
-        ensures { map row_of result.now ≡ self.now.held.table }
+        ensures value { map row_of result.now ≡ self.now.table }
+        ensures tracked { Tracked self.now.maximum [] self.now.table self.now.left }
+        ensures limits { (1 ≤ self.now.limit) × ((self.now.limit ≤ 64) × (self.now.maximum ≤ 8)) }
     {
         self.owned.rows()
     }
 
-    // The left-behind list, ascending; with the job table it holds what every worker keeps.
+    // The left-behind list, ascending.
     pub fn left_behind(&self) -> &[Ulid]
-        ensures value { map id-number result.now ≡ self.now.held.left }
-        ensures tracked { Tracked self.now.settings.maximum [] self.now.held.table self.now.held.left }
-        ensures limits { (1 ≤ self.now.settings.limit) × ((self.now.settings.limit ≤ 64) × (self.now.settings.maximum ≤ 8)) }
+        ensures value { map id-number result.now ≡ self.now.left }
+        ensures tracked { Tracked self.now.maximum [] self.now.table self.now.left }
+        ensures limits { (1 ≤ self.now.limit) × ((self.now.limit ≤ 64) × (self.now.maximum ≤ 8)) }
     {
         self.owned.listed()
     }
 
-    // The executor, whose places and running jobs are those of the worker.
     pub fn executor(&self) -> &E
-        ensures value { result.now ≡ self.now.executor }
-        ensures places { self.now.settings.places ≡ E.places.count }
-        ensures jobs { self.now.held.jobs ≡ (E.jobs self.now.executor).list }
+        ensures { result.now ≡ self.now.executor }
     {
         &self.executor
     }

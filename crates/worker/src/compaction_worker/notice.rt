@@ -1,5 +1,5 @@
 // Notices of the executor: progress, and jobs that ended.
-ghost use Rattle.std.specs.Prelude.{◌≡◌, ℕ, List, if◌then◌else◌, Result};
+ghost use Rattle.std.specs.Prelude.{◌≡◌, ℕ, ◌≤◌, List, [], if◌then◌else◌, Result};
 ghost use Rattle.table.specs.Ids.{number as id-number};
 ghost use Rattle.table.specs.Tables.{holds};
 ghost use Rattle.compactions.specs.Meanings.{context_of};
@@ -7,9 +7,11 @@ ghost use Rattle.compactions.specs.Trees.{Manifest};
 ghost use Rattle.executors.specs.Executors.{finished};
 ghost use Rattle.executors.specs.Notices.{outcome_of, notice_of};
 ghost use Rattle.worker_steps.specs.States.{row_id, state};
+ghost use Rattle.worker_steps.specs.Tracking.{Tracked};
 ghost use Rattle.worker_steps.specs.Notices.{noticed_by, settling, with_progress, handled};
 ghost use Rattle.worker.specs.Notices.{noticed_of, Noticing};
 ghost use Rattle.worker.specs.Settling.{settled_of};
+ghost use Rattle.worker.specs.Worker.{held_of, settings_of};
 
 use super::CompactionWorker;
 use crate::job_progress::Progress;
@@ -26,9 +28,9 @@ use worker_steps::fault::WorkerFault;
 impl<E: CompactionExecutor> CompactionWorker<E> {
     // Replaces the context of a job's row; says whether the job has one.
     fn record_progress(&mut self, id: Ulid, ctx: CompactionContext) -> bool
-        ensures value { result ≡ holds row_id (id-number id) self.old.held.table }
-        ensures held { self.new.held ≡ (if result then with_progress (id-number id) (context_of ctx) self.old.held else self.old.held) }
-        ensures settings { self.new.settings ≡ self.old.settings }
+        ensures value { result ≡ holds row_id (id-number id) self.old.table }
+        ensures held { held_of (E.jobs self.new.executor).list self.new ≡ (if result then with_progress (id-number id) (context_of ctx) (held_of (E.jobs self.old.executor).list self.old) else held_of (E.jobs self.old.executor).list self.old) }
+        ensures settings { settings_of E.places.count self.new ≡ settings_of E.places.count self.old }
     {
         self.owned.set_context(Progress { id, ctx: Some(ctx) })
     }
@@ -41,9 +43,9 @@ impl<E: CompactionExecutor> CompactionWorker<E> {
         id: Ulid,
         res: Result<SortedRun, u32>,
     ) -> Result<Settled, WorkerFault>
-        ensures answer { (ms : List (Result Manifest ℕ)) → settled_of result ≡ (settling self.old.settings (id-number id) (outcome_of res) (state self.old.held (S.meaning store.old) clock.old ms)).result }
-        ensures after { (ms : List (Result Manifest ℕ)) → state self.new.held (S.meaning store.new) clock.new ms ≡ (settling self.old.settings (id-number id) (outcome_of res) (state self.old.held (S.meaning store.old) clock.old ms)).state }
-        ensures settings { self.new.settings ≡ self.old.settings }
+        ensures answer { (ms : List (Result Manifest ℕ)) → settled_of result ≡ (settling (settings_of E.places.count self.old) (id-number id) (outcome_of res) (state (held_of (E.jobs self.old.executor).list self.old) (S.meaning store.old) clock.old ms)).result }
+        ensures after { (ms : List (Result Manifest ℕ)) → state (held_of (E.jobs self.new.executor).list self.new) (S.meaning store.new) clock.new ms ≡ (settling (settings_of E.places.count self.old) (id-number id) (outcome_of res) (state (held_of (E.jobs self.old.executor).list self.old) (S.meaning store.old) clock.old ms)).state }
+        ensures settings { settings_of E.places.count self.new ≡ settings_of E.places.count self.old }
     {
         match res {
             Ok(run) => self.write_compacted(store, clock, id, &run),
@@ -60,9 +62,9 @@ impl<E: CompactionExecutor> CompactionWorker<E> {
         id: Ulid,
         res: Result<SortedRun, u32>,
     ) -> Result<Settled, WorkerFault>
-        ensures answer { (ms : List (Result Manifest ℕ)) → noticed_by (settled_of result) ≡ (handled self.old.settings (finished (id-number id) (outcome_of res)) (state self.old.held (S.meaning store.old) clock.old ms)).result }
-        ensures after { (ms : List (Result Manifest ℕ)) → state self.new.held (S.meaning store.new) clock.new ms ≡ (handled self.old.settings (finished (id-number id) (outcome_of res)) (state self.old.held (S.meaning store.old) clock.old ms)).state }
-        ensures settings { self.new.settings ≡ self.old.settings }
+        ensures answer { (ms : List (Result Manifest ℕ)) → noticed_by (settled_of result) ≡ (handled (settings_of E.places.count self.old) (finished (id-number id) (outcome_of res)) (state (held_of (E.jobs self.old.executor).list self.old) (S.meaning store.old) clock.old ms)).result }
+        ensures after { (ms : List (Result Manifest ℕ)) → state (held_of (E.jobs self.new.executor).list self.new) (S.meaning store.new) clock.new ms ≡ (handled (settings_of E.places.count self.old) (finished (id-number id) (outcome_of res)) (state (held_of (E.jobs self.old.executor).list self.old) (S.meaning store.old) clock.old ms)).state }
+        ensures settings { settings_of E.places.count self.new ≡ settings_of E.places.count self.old }
     {
         if !self.owned.strike_row(id) {
             return Ok(Settled::Dropped);
@@ -80,9 +82,9 @@ impl<E: CompactionExecutor> CompactionWorker<E> {
         clock: &mut ListClock,
         message: WorkerMessage,
     ) -> Result<NoticeAnswer, WorkerFault>
-        ensures answer { (ms : List (Result Manifest ℕ)) → noticed_of result ≡ (handled self.old.settings (notice_of message) (state self.old.held (S.meaning store.old) clock.old ms)).result }
-        ensures after { (ms : List (Result Manifest ℕ)) → state self.new.held (S.meaning store.new) clock.new ms ≡ (handled self.old.settings (notice_of message) (state self.old.held (S.meaning store.old) clock.old ms)).state }
-        ensures settings { self.new.settings ≡ self.old.settings }
+        ensures answer { (ms : List (Result Manifest ℕ)) → noticed_of result ≡ (handled (settings_of E.places.count self.old) (notice_of message) (state (held_of (E.jobs self.old.executor).list self.old) (S.meaning store.old) clock.old ms)).result }
+        ensures after { (ms : List (Result Manifest ℕ)) → state (held_of (E.jobs self.new.executor).list self.new) (S.meaning store.new) clock.new ms ≡ (handled (settings_of E.places.count self.old) (notice_of message) (state (held_of (E.jobs self.old.executor).list self.old) (S.meaning store.old) clock.old ms)).state }
+        ensures settings { settings_of E.places.count self.new ≡ settings_of E.places.count self.old }
     {
         match message {
             WorkerMessage::CompactionJobProgress { id, ctx } => {
@@ -99,14 +101,14 @@ impl<E: CompactionExecutor> CompactionWorker<E> {
         }
     }
 
-    // Takes one notice of the executor, and does what it asks.
-    pub fn notice<S: CompactionsStore>(
+    // The works of a notice, or the fault that one of them met.
+    fn notice_works<S: CompactionsStore>(
         &mut self,
         store: &mut S,
         clock: &mut ListClock,
     ) -> Result<NoticeAnswer, WorkerFault>
-        ensures steps { Noticing self.old.settings (state self.old.held (S.meaning store.old) clock.old) (noticed_of result) (state self.new.held (S.meaning store.new) clock.new) }
-        ensures settings { self.new.settings ≡ self.old.settings }
+        ensures steps { Noticing (settings_of E.places.count self.old) (state (held_of (E.jobs self.old.executor).list self.old) (S.meaning store.old) clock.old) (noticed_of result) (state (held_of (E.jobs self.new.executor).list self.new) (S.meaning store.new) clock.new) }
+        ensures settings { settings_of E.places.count self.new ≡ settings_of E.places.count self.old }
     {
         if !self.ensure_loaded(store)? {
             return Ok(NoticeAnswer::NothingYet);
@@ -115,5 +117,21 @@ impl<E: CompactionExecutor> CompactionWorker<E> {
             return Ok(NoticeAnswer::NoNotice);
         };
         self.handle(store, clock, message)
+    }
+    // Takes one notice of the executor, and does what it asks.
+    pub fn notice<S: CompactionsStore>(
+        &mut self,
+        store: &mut S,
+        clock: &mut ListClock,
+    ) -> Result<NoticeAnswer, WorkerFault>
+        ensures steps { Noticing (settings_of E.places.count self.old) (state (held_of (E.jobs self.old.executor).list self.old) (S.meaning store.old) clock.old) (noticed_of result) (state (held_of (E.jobs self.new.executor).list self.new) (S.meaning store.new) clock.new) }
+        ensures settings { settings_of E.places.count self.new ≡ settings_of E.places.count self.old }
+        ensures tracked { Tracked self.new.maximum [] self.new.table self.new.left }
+        ensures limits { (1 ≤ self.new.limit) × ((self.new.limit ≤ 64) × (self.new.maximum ≤ 8)) }
+    {
+        let answer = self.notice_works(store, clock);
+        // a look at the worker that the works left, for what it keeps
+        let _ = self.left_behind();
+        answer
     }
 }

@@ -1,5 +1,5 @@
 // A poll: the first look, the claim, one manifest, and what becomes of the claimed entries.
-ghost use Rattle.std.specs.Prelude.{◌≡◌, ℕ, map, length};
+ghost use Rattle.std.specs.Prelude.{◌≡◌, ℕ, ◌≤◌, [], map, length};
 ghost use Rattle.executors.specs.Manifests.{given, behind};
 ghost use Rattle.stores.specs.Records.{entry_id};
 ghost use Rattle.worker_steps.specs.States.{state};
@@ -8,6 +8,7 @@ ghost use Rattle.worker_steps.specs.Polls.{dispatch_given, poll as poll-steps};
 ghost use Rattle.worker.specs.Claims.{waiting};
 ghost use Rattle.worker.specs.Dispatches.{dispatch_of};
 ghost use Rattle.worker.specs.Polls.{counts_of, poll_answer_by, poll_answer_of, ended_of};
+ghost use Rattle.worker.specs.Worker.{held_of, settings_of};
 
 use super::CompactionWorker;
 use crate::polls::{LandedClaims, PollAnswer, PollCounts, PollEnd};
@@ -27,12 +28,12 @@ impl<E: CompactionExecutor> CompactionWorker<E> {
         landed: LandedClaims,
         counts: &mut PollCounts,
     ) -> Result<(), WorkerFault>
-        requires pending { Tracked self.old.settings.maximum (map entry_id (waiting landed.claims)) self.old.held.table self.old.held.left }
+        requires pending { Tracked self.old.maximum (map entry_id (waiting landed.claims)) self.old.table self.old.left }
         requires fresh { (counts.old.started ≡ 0) × ((counts.old.let_go ≡ 0) × (counts.old.left ≡ 0)) }
-        ensures answer { dispatch_of result (counts_of counts.new) ≡ (dispatch_given self.old.settings landed.attempt (given manifests.old) (waiting landed.claims) (state self.old.held (S.meaning store.old) clock.old (behind manifests.old))).result }
-        ensures after { state self.new.held (S.meaning store.new) clock.new manifests.new ≡ (dispatch_given self.old.settings landed.attempt (given manifests.old) (waiting landed.claims) (state self.old.held (S.meaning store.old) clock.old (behind manifests.old))).state }
+        ensures answer { dispatch_of result (counts_of counts.new) ≡ (dispatch_given (settings_of E.places.count self.old) landed.attempt (given manifests.old) (waiting landed.claims) (state (held_of (E.jobs self.old.executor).list self.old) (S.meaning store.old) clock.old (behind manifests.old))).result }
+        ensures after { state (held_of (E.jobs self.new.executor).list self.new) (S.meaning store.new) clock.new manifests.new ≡ (dispatch_given (settings_of E.places.count self.old) landed.attempt (given manifests.old) (waiting landed.claims) (state (held_of (E.jobs self.old.executor).list self.old) (S.meaning store.old) clock.old (behind manifests.old))).state }
         ensures claimed { (counts.new.claimed ≡ counts.old.claimed) × (counts.new.stopped ≡ counts.old.stopped) }
-        ensures settings { self.new.settings ≡ self.old.settings }
+        ensures settings { settings_of E.places.count self.new ≡ settings_of E.places.count self.old }
     {
         let LandedClaims { claims, attempt } = landed;
         match manifests.read() {
@@ -59,9 +60,9 @@ impl<E: CompactionExecutor> CompactionWorker<E> {
         counts: &mut PollCounts,
     ) -> Result<PollEnd, WorkerFault>
         requires { counts_of counts.old ≡ record { claimed = 0; started = 0; let_go = 0; left = 0; stopped = 0 } }
-        ensures answer { poll_answer_by (ended_of result) (counts_of counts.new) ≡ (poll-steps self.old.settings (state self.old.held (S.meaning store.old) clock.old manifests.old)).result }
-        ensures after { state self.new.held (S.meaning store.new) clock.new manifests.new ≡ (poll-steps self.old.settings (state self.old.held (S.meaning store.old) clock.old manifests.old)).state }
-        ensures settings { self.new.settings ≡ self.old.settings }
+        ensures answer { poll_answer_by (ended_of result) (counts_of counts.new) ≡ (poll-steps (settings_of E.places.count self.old) (state (held_of (E.jobs self.old.executor).list self.old) (S.meaning store.old) clock.old manifests.old)).result }
+        ensures after { state (held_of (E.jobs self.new.executor).list self.new) (S.meaning store.new) clock.new manifests.new ≡ (poll-steps (settings_of E.places.count self.old) (state (held_of (E.jobs self.old.executor).list self.old) (S.meaning store.old) clock.old manifests.old)).state }
+        ensures settings { settings_of E.places.count self.new ≡ settings_of E.places.count self.old }
     {
         if !self.ensure_loaded(store)? {
             return Ok(PollEnd::NothingYet);
@@ -80,12 +81,16 @@ impl<E: CompactionExecutor> CompactionWorker<E> {
         clock: &mut ListClock,
         manifests: &mut ListManifests,
     ) -> PollAnswer
-        ensures answer { poll_answer_of result ≡ (poll-steps self.old.settings (state self.old.held (S.meaning store.old) clock.old manifests.old)).result }
-        ensures after { state self.new.held (S.meaning store.new) clock.new manifests.new ≡ (poll-steps self.old.settings (state self.old.held (S.meaning store.old) clock.old manifests.old)).state }
-        ensures settings { self.new.settings ≡ self.old.settings }
+        ensures answer { poll_answer_of result ≡ (poll-steps (settings_of E.places.count self.old) (state (held_of (E.jobs self.old.executor).list self.old) (S.meaning store.old) clock.old manifests.old)).result }
+        ensures after { state (held_of (E.jobs self.new.executor).list self.new) (S.meaning store.new) clock.new manifests.new ≡ (poll-steps (settings_of E.places.count self.old) (state (held_of (E.jobs self.old.executor).list self.old) (S.meaning store.old) clock.old manifests.old)).state }
+        ensures settings { settings_of E.places.count self.new ≡ settings_of E.places.count self.old }
+        ensures tracked { Tracked self.new.maximum [] self.new.table self.new.left }
+        ensures limits { (1 ≤ self.new.limit) × ((self.new.limit ≤ 64) × (self.new.maximum ≤ 8)) }
     {
         let mut counts = PollCounts::default();
         let end = self.poll_works(store, clock, manifests, &mut counts);
+        // a look at the worker that the works left, for what it keeps
+        let _ = self.left_behind();
         PollAnswer { end, counts }
     }
 }

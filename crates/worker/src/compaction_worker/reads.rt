@@ -7,6 +7,7 @@ ghost use Rattle.executors.specs.Clocks.{Readings};
 ghost use Rattle.worker_steps.specs.States.{state};
 ghost use Rattle.worker_steps.specs.Looks.{held_after, first_look};
 ghost use Rattle.worker.specs.Reads.{opened_of, read_of, record_for};
+ghost use Rattle.worker.specs.Worker.{held_of, settings_of};
 
 use super::CompactionWorker;
 use executors::compactor_executor::CompactionExecutor;
@@ -22,8 +23,8 @@ impl<E: CompactionExecutor> CompactionWorker<E> {
     ) -> Result<Option<Draft>, StoreFault>
         ensures answer { read_answer_of result ≡ (read (S.meaning store.old)).answer }
         ensures store { S.meaning store.new ≡ (read (S.meaning store.old)).after }
-        ensures held { self.new.held ≡ held_after self.old.settings.number (read (S.meaning store.old)).answer self.old.held }
-        ensures settings { self.new.settings ≡ self.old.settings }
+        ensures held { held_of (E.jobs self.new.executor).list self.new ≡ held_after self.old.number (read (S.meaning store.old)).answer (held_of (E.jobs self.old.executor).list self.old) }
+        ensures settings { settings_of E.places.count self.new ≡ settings_of E.places.count self.old }
     {
         let Some(draft) = store.read()? else {
             return Ok(None);
@@ -40,8 +41,8 @@ impl<E: CompactionExecutor> CompactionWorker<E> {
     ) -> Result<Draft, WorkerFault>
         ensures answer { read_of result ≡ record_for during (read (S.meaning store.old)).answer }
         ensures store { S.meaning store.new ≡ (read (S.meaning store.old)).after }
-        ensures held { self.new.held ≡ held_after self.old.settings.number (read (S.meaning store.old)).answer self.old.held }
-        ensures settings { self.new.settings ≡ self.old.settings }
+        ensures held { held_of (E.jobs self.new.executor).list self.new ≡ held_after self.old.number (read (S.meaning store.old)).answer (held_of (E.jobs self.old.executor).list self.old) }
+        ensures settings { settings_of E.places.count self.new ≡ settings_of E.places.count self.old }
     {
         let Some(draft) = during.tell(self.read_record(store))? else {
             let fault = StoreFault {
@@ -58,9 +59,9 @@ impl<E: CompactionExecutor> CompactionWorker<E> {
         &mut self,
         store: &mut S,
     ) -> Result<bool, WorkerFault>
-        ensures found { (c : Readings) (ms : List (Result Manifest ℕ)) → opened_of result ≡ (first_look self.old.settings.number (state self.old.held (S.meaning store.old) c ms)).found }
-        ensures after { (c : Readings) (ms : List (Result Manifest ℕ)) → state self.new.held (S.meaning store.new) c ms ≡ (first_look self.old.settings.number (state self.old.held (S.meaning store.old) c ms)).state }
-        ensures settings { self.new.settings ≡ self.old.settings }
+        ensures found { (c : Readings) (ms : List (Result Manifest ℕ)) → opened_of result ≡ (first_look self.old.number (state (held_of (E.jobs self.old.executor).list self.old) (S.meaning store.old) c ms)).found }
+        ensures after { (c : Readings) (ms : List (Result Manifest ℕ)) → state (held_of (E.jobs self.new.executor).list self.new) (S.meaning store.new) c ms ≡ (first_look self.old.number (state (held_of (E.jobs self.old.executor).list self.old) (S.meaning store.old) c ms)).state }
+        ensures settings { settings_of E.places.count self.new ≡ settings_of E.places.count self.old }
     {
         if self.loaded {
             return Ok(true);

@@ -7,6 +7,7 @@ ghost use Rattle.worker_steps.specs.States.{state};
 ghost use Rattle.worker_steps.specs.Releases.{released_as, releasing};
 ghost use Rattle.worker.specs.EntryWorks.{the_release};
 ghost use Rattle.worker.specs.Settling.{settled_of};
+ghost use Rattle.worker.specs.Worker.{held_of, settings_of};
 
 use super::CompactionWorker;
 use crate::entry_work::EntryWork;
@@ -48,9 +49,9 @@ impl<E: CompactionExecutor> CompactionWorker<E> {
         clock: &mut ListClock,
         id: Ulid,
     ) -> Result<Settled, WorkerFault>
-        ensures answer { (ms : List (Result Manifest ℕ)) → settled_of result ≡ (releasing self.old.settings (id-number id) (state self.old.held (S.meaning store.old) clock.old ms)).result }
-        ensures after { (ms : List (Result Manifest ℕ)) → state self.new.held (S.meaning store.new) clock.new ms ≡ (releasing self.old.settings (id-number id) (state self.old.held (S.meaning store.old) clock.old ms)).state }
-        ensures settings { self.new.settings ≡ self.old.settings }
+        ensures answer { (ms : List (Result Manifest ℕ)) → settled_of result ≡ (releasing (settings_of E.places.count self.old) (id-number id) (state (held_of (E.jobs self.old.executor).list self.old) (S.meaning store.old) clock.old ms)).result }
+        ensures after { (ms : List (Result Manifest ℕ)) → state (held_of (E.jobs self.new.executor).list self.new) (S.meaning store.new) clock.new ms ≡ (releasing (settings_of E.places.count self.old) (id-number id) (state (held_of (E.jobs self.old.executor).list self.old) (S.meaning store.old) clock.old ms)).state }
+        ensures settings { settings_of E.places.count self.new ≡ settings_of E.places.count self.old }
     {
         self.work_on_entry(store, clock, &Release, id)
     }

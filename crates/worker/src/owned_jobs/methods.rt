@@ -18,7 +18,8 @@ use table::ulid::Ulid;
 impl OwnedJobs {
     pub(crate) fn new(maximum: usize) -> OwnedJobs
         requires { maximum ≤ 8 }
-        ensures { result ≡ record { maximum = maximum; table = []; left = [] } }
+        ensures value { result ≡ record { maximum = maximum; table = []; left = [] } }
+        ensures tracked { Tracked result.maximum [] result.table result.left }
     {
         let blank = Progress {
             id: Ulid { high: 0, low: 0 },
@@ -40,7 +41,8 @@ impl OwnedJobs {
     }
 
     pub(crate) fn has_row(&self, id: Ulid) -> bool
-        ensures { result ≡ holds row_id (id-number id) self.now.table }
+        ensures value { result ≡ holds row_id (id-number id) self.now.table }
+        ensures tracked { Tracked self.now.maximum [] self.now.table self.now.left }
     {
         self.job_progress.holds(id)
     }
@@ -49,6 +51,7 @@ impl OwnedJobs {
     pub(crate) fn strike_row(&mut self, id: Ulid) -> bool
         ensures value { result ≡ holds row_id (id-number id) self.old.table }
         ensures after { self.new ≡ with_table self.old (strike row_id (id-number id) self.old.table) }
+        ensures tracked { Tracked self.new.maximum [] self.new.table self.new.left }
         ensures pending { result ≡ true → Tracked self.new.maximum (id-number id ∷ []) self.new.table self.new.left }
     {
         self.job_progress.strike(id)
@@ -57,7 +60,8 @@ impl OwnedJobs {
     // A row for a pending id.
     pub(crate) fn add_row(&mut self, row: Progress)
         requires { Tracked self.old.maximum ((row_of row).id ∷ []) self.old.table self.old.left }
-        ensures { self.new ≡ with_table self.old (put row_id (row_of row) self.old.table) }
+        ensures after { self.new ≡ with_table self.old (put row_id (row_of row) self.old.table) }
+        ensures tracked { Tracked self.new.maximum [] self.new.table self.new.left }
     {
         let _ = self.job_progress.put(row);
     }
@@ -66,6 +70,7 @@ impl OwnedJobs {
     pub(crate) fn set_context(&mut self, row: Progress) -> bool
         ensures value { result ≡ holds row_id (row_of row).id self.old.table }
         ensures after { self.new ≡ (if result then with_table self.old (put row_id (row_of row) self.old.table) else self.old) }
+        ensures tracked { Tracked self.new.maximum [] self.new.table self.new.left }
     {
         if !self.has_row(row.id) {
             return false;
@@ -77,14 +82,16 @@ impl OwnedJobs {
     // A pending id joins the left-behind list.
     pub(crate) fn leave(&mut self, id: Ulid)
         requires { Tracked self.old.maximum (id-number id ∷ []) self.old.table self.old.left }
-        ensures { self.new ≡ with_list self.old (put self_id (id-number id) self.old.left) }
+        ensures after { self.new ≡ with_list self.old (put self_id (id-number id) self.old.left) }
+        ensures tracked { Tracked self.new.maximum [] self.new.table self.new.left }
     {
         let _ = self.left_behind.put(id);
     }
 
     // Strikes the listed ids that have no entry Running under the number.
     pub(crate) fn keep_running(&mut self, draft: &Draft, number: u32)
-        ensures { self.new ≡ with_list self.old (still_left number (draft_of draft.now).entries self.old.left) }
+        ensures after { self.new ≡ with_list self.old (still_left number (draft_of draft.now).entries self.old.left) }
+        ensures tracked { Tracked self.new.maximum [] self.new.table self.new.left }
     {
         self.left_behind.retain(|id| runs_under(draft, *id, number));
     }

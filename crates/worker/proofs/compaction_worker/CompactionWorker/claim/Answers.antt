@@ -8,18 +8,18 @@ use Rattle.worker_steps.specs.Effects.{Effect}
 use Rattle.worker_steps.specs.Claims.{Claimed, claiming}
 use Rattle.worker.specs.Claims.{waiting}
 use Rattle.worker.specs.Polls.{Counts, counts_of, ClaimEnd, none, landed, faulted, conflict, turn_of, claim_end, counted_claim, PendingTurn}
+use Rattle.worker.specs.Worker.{Worker, held_of, settings_of}
 use Rattle.worker.proofs.Claiming.{claiming_none, Ended, ended, gave_up, one_more, not_none, not_landed_end, not_faulted}
-use Rattle.worker.specs.Worker.{Worker}
 use Rattle.worker.proofs.compaction_worker.CompactionWorker.claim.Given as given
 use Rattle.worker.proofs.compaction_worker.CompactionWorker.claim.Goals as goal
 use Rattle.worker.proofs.compaction_worker.CompactionWorker.claim.Goals.{After-capacity-capacity, After-attempt_claim}
 
 -- the capacity that it took, by the worker's meaning
-taken_at : (g : given.Over) (c : After-capacity-capacity g) → c.capacity-capacity.result ≡ c.args.self.now.settings.maximum - length c.args.self.now.held.table
+taken_at : (g : given.Over) (c : After-capacity-capacity g) → c.capacity-capacity.result ≡ c.args.self.now.maximum - length c.args.self.now.table
 taken_at g c = rw (← c.self.view_is) c.capacity-capacity.ensures.value
 
 -- nothing is pending at first
-tracked_first : (g : given.Over) (c : After-capacity-capacity g) → Tracked c.args.self.now.settings.maximum [] c.args.self.now.held.table c.args.self.now.held.left
+tracked_first : (g : given.Over) (c : After-capacity-capacity g) → Tracked c.args.self.now.maximum [] c.args.self.now.table c.args.self.now.left
 tracked_first g c = rw (← c.self.view_is) c.capacity-capacity.ensures.tracked
 
 pub attempts-init : goal.attempts-init
@@ -35,19 +35,19 @@ pub attempt_claim-requires : goal.attempt_claim-requires
 attempt_claim-requires g c =
     let i = c.attempts.invariant.0 in
     record {
-      small = omega (arith, c.capacity-capacity.ensures.value, c.self.invariant.1.1);
+      small = omega (arith, c.capacity-capacity.ensures.value, c.self.invariant.1.1.0);
       tracked = c.attempts.invariant.3;
       room = c.attempts.invariant.2;
-      few = (i.few, omega (arith, i.within, ap (λ (x : Worker _). x.settings.limit) c.self.view_is, c.self.invariant.1.0));
+      few = (i.few, omega (arith, i.within, ap (λ (x : Worker _). x.limit) c.self.view_is, c.self.invariant.1.0));
       fresh = (i.claimed, i.left);
     }
 
 -- a claim that ended, by the capacity that it took
 module _ (g : given.Over) (c : After-capacity-capacity g) (e : ClaimEnd) (n : Counts) (v : List (Result Manifest ℕ) → State) where
   abbrev whole : ℕ → List (Result Manifest ℕ) → Effect Claimed
-  whole k ms = claiming c.args.self.now.settings k (state c.args.self.now.held (g.S.CompactionsStore.meaning c.args.store.now) c.args.clock.now ms)
+  whole k ms = claiming (settings_of g.E.CompactionExecutor.places.count c.args.self.now) k (state (held_of (g.E.CompactionExecutor.jobs c.args.self.now.executor).list c.args.self.now) (g.S.CompactionsStore.meaning c.args.store.now) c.args.clock.now ms)
 
-  at_capacity : Ended (whole c.capacity-capacity.result) e (counts_of c.args.counts.now) n v → Ended (whole (c.args.self.now.settings.maximum - length c.args.self.now.held.table)) e (counts_of c.args.counts.now) n v
+  at_capacity : Ended (whole c.capacity-capacity.result) e (counts_of c.args.counts.now) n v → Ended (whole (c.args.self.now.maximum - length c.args.self.now.table)) e (counts_of c.args.counts.now) n v
   at_capacity z = record {
     answer = λ ms. z.answer ms ∙ ap (λ k. claim_end (whole k ms).result) (taken_at g c);
     counts = λ ms. z.counts ms ∙ ap (λ k. counted_claim (counts_of c.args.counts.now) (whole k ms).result (whole k ms).stopped) (taken_at g c);
@@ -75,28 +75,28 @@ returns-then-attempt-self g c =
     let b = (goal.at.returns-then-attempt-self g c).After-capacity-capacity in
     let said = c.in_ok-attempt_claim.ensures in
     let is = ap (λ t. turn_of c.attempts.attempt (Ok t)) c.in-Conflict.is in
-    let limits = ap (λ (x : Worker _). x.settings.limit) c.self-in-attempts.view_is ∙ ap (λ s. s.limit) (said.settings ∙ c.attempts.invariant.1) in
-    let last : c.args.self.now.settings.limit ≤ c.attempts.attempt = omega (arith, c.if-attempt-self.true, limits) in
-    let at : c.attempts.attempt ≡ c.args.self.now.settings.limit = omega (arith, last, c.attempts.invariant.0.within) in
-    let z = at_capacity g b (faulted (fault not_landed claim None c.args.self.now.settings.limit)) _ _ (gave_up c.attempts.invariant.0 _ c.attempts.invariant.1 conflict _ _ (λ ms. sym is ∙ said.answer ms) said.counts said.after refl last) in
+    let limits = ap (λ (x : Worker _). x.limit) c.self-in-attempts.view_is ∙ ap (λ s. s.limit) (said.settings ∙ c.attempts.invariant.1) in
+    let last : c.args.self.now.limit ≤ c.attempts.attempt = omega (arith, c.if-attempt-self.true, limits) in
+    let at : c.attempts.attempt ≡ c.args.self.now.limit = omega (arith, last, c.attempts.invariant.0.within) in
+    let z = at_capacity g b (faulted (fault not_landed claim None c.args.self.now.limit)) _ _ (gave_up c.attempts.invariant.0 _ c.attempts.invariant.1 conflict _ _ (λ ms. sym is ∙ said.answer ms) said.counts said.after refl last) in
     record { answer = λ ms. ap (λ a. faulted (fault not_landed claim None a)) at ∙ z.answer ms; counts = z.counts; after = z.after; settings = said.settings ∙ c.attempts.invariant.1; pending = tt }
 
 pub attempts-smaller : goal.attempts-smaller
 attempts-smaller g c =
     let said = c.in_ok-attempt_claim.ensures in
-    let limits : c.self-in-attempts.inside.limit ≡ c.attempt_claim.new.self.settings.limit = ap (λ (x : Worker _). x.settings.limit) c.self-in-attempts.view_is in
-    let same : c.attempt_claim.new.self.settings.limit ≡ c.attempts.self.settings.limit = ap (λ s. s.limit) said.settings in
+    let limits : c.self-in-attempts.inside.limit ≡ c.attempt_claim.new.self.limit = ap (λ (x : Worker _). x.limit) c.self-in-attempts.view_is in
+    let same : c.attempt_claim.new.self.limit ≡ c.attempts.self.limit = ap (λ s. s.limit) said.settings in
     omega (arith, limits, same, c.if-attempt-self.false)
 
 pub attempts-preserved : goal.attempts-preserved
 attempts-preserved g c =
     let said = c.in_ok-attempt_claim.ensures in
     let is = ap (λ t. turn_of c.attempts.attempt (Ok t)) c.in-Conflict.is in
-    let limits = ap (λ (x : Worker _). x.settings.limit) c.self-in-attempts.view_is ∙ ap (λ s. s.limit) (said.settings ∙ c.attempts.invariant.1) in (
+    let limits = ap (λ (x : Worker _). x.limit) c.self-in-attempts.view_is ∙ ap (λ s. s.limit) (said.settings ∙ c.attempts.invariant.1) in (
       one_more c.attempts.invariant.0 _ c.attempts.invariant.1 conflict _ _ (λ ms. sym is ∙ said.answer ms) said.counts said.after refl _ _ _ (λ ms. refl) (omega (arith, limits, c.if-attempt-self.false)) said.few,
       said.settings ∙ c.attempts.invariant.1,
       said.room,
-      subst (λ t. PendingTurn c.attempt_claim.new.self.settings.maximum c.attempt_claim.new.self.held (Ok t)) c.in-Conflict.is said.pending,
+      subst (λ t. PendingTurn c.attempt_claim.new.self.maximum (held_of (g.E.CompactionExecutor.jobs c.attempt_claim.new.self.executor).list c.attempt_claim.new.self) (Ok t)) c.in-Conflict.is said.pending,
     )
 
 pub returns : goal.returns
@@ -111,5 +111,5 @@ returns g c =
       counts = z.counts;
       after = z.after;
       settings = said.settings ∙ c.attempts.invariant.1;
-      pending = subst (λ t. PendingTurn c.attempt_claim.new.self.settings.maximum c.attempt_claim.new.self.held (Ok t)) c.in-Landed.is said.pending;
+      pending = subst (λ t. PendingTurn c.attempt_claim.new.self.maximum (held_of (g.E.CompactionExecutor.jobs c.attempt_claim.new.self.executor).list c.attempt_claim.new.self) (Ok t)) c.in-Landed.is said.pending;
     }

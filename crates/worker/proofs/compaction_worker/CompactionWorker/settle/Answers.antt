@@ -12,6 +12,7 @@ use Rattle.worker.specs.Polls.{counts_of}
 use Rattle.worker.specs.Settling.{settled_of}
 use Rattle.worker.specs.declared.settling.Settled.{Settled}
 use Rattle.worker.specs.declared.settling.Settled.TheVariants.{Written, Dropped}
+use Rattle.worker.specs.Worker.{held_of, settings_of}
 use Rattle.worker.proofs.Dispatching.{started_result, started_after, started_tracked, let_go_result, let_go_after, released_tracked, stuck_result, stuck_after}
 use Rattle.worker_steps.proofs.Tracking.{settle}
 use Rattle.worker.proofs.compaction_worker.CompactionWorker.settle.Given as given
@@ -34,10 +35,10 @@ not_stuck Dropped f e = let z : ◌≡◌ {A = ℕ} 0 1 = cc in omega arith
 
 pub returns-in-Ok-clause-step : goal.returns-in-Ok-clause-step
 returns-in-Ok-clause-step g c =
-    let s = c.args.self.now.settings in
+    let s = settings_of g.E.CompactionExecutor.places.count c.args.self.now in
     let m = manifest_of c.args.manifest.now in
     let e = entry_of c.args.claim.entry in
-    let h = c.args.self.now.held in
+    let h = held_of (g.E.CompactionExecutor.jobs c.args.self.now.executor).list c.args.self.now in
     let st = g.S.CompactionsStore.meaning c.args.store.now in
     let ck = c.args.clock.now in
     let yes' = kept_none (may_run s.places (job_args e m) h.jobs) e c.in-Ok.ensures.answer in
@@ -51,36 +52,36 @@ returns-in-Ok-clause-step g c =
     }
 
 module _ (g : given.Over) (c : After-release_claim g) where
-  refused : (may_run c.args.self.now.settings.places (job_args (entry_of c.args.claim.entry) (manifest_of c.args.manifest.now)) c.args.self.now.held.jobs ≡ false) × (entry_of c.in-Err.claim.entry ≡ entry_of c.args.claim.entry)
+  refused : (may_run g.E.CompactionExecutor.places.count (job_args (entry_of c.args.claim.entry) (manifest_of c.args.manifest.now)) (g.E.CompactionExecutor.jobs c.args.self.now.executor).list ≡ false) × (entry_of c.in-Err.claim.entry ≡ entry_of c.args.claim.entry)
   refused = came_back _ _ _ c.in-Err.ensures.answer
 
-  same_held : c.start.new.self.held ≡ c.args.self.now.held
-  same_held = c.in-Err.ensures.held ∙ ap (λ b. cond b (with_started (entry_of c.args.claim.entry) (job_args (entry_of c.args.claim.entry) (manifest_of c.args.manifest.now)) c.args.self.now.held) c.args.self.now.held) refused.0
+  same_held : held_of (g.E.CompactionExecutor.jobs c.start.new.self.executor).list c.start.new.self ≡ held_of (g.E.CompactionExecutor.jobs c.args.self.now.executor).list c.args.self.now
+  same_held = c.in-Err.ensures.held ∙ ap (λ b. cond b (with_started (entry_of c.args.claim.entry) (job_args (entry_of c.args.claim.entry) (manifest_of c.args.manifest.now)) (held_of (g.E.CompactionExecutor.jobs c.args.self.now.executor).list c.args.self.now)) (held_of (g.E.CompactionExecutor.jobs c.args.self.now.executor).list c.args.self.now)) refused.0
 
   same_id : number c.entry.result.now.id ≡ (entry_of c.args.claim.entry).id
   same_id = ap (λ x. number x.id) c.entry.ensures ∙ ap (λ x. x.id) refused.1
 
   -- the release was that of this entry, from this state
   module _ (ms : List (Result Manifest ℕ)) where
-    whole : releasing c.start.new.self.settings (number c.entry.result.now.id) (state c.start.new.self.held (g.S.CompactionsStore.meaning c.args.store.now) c.args.clock.now ms) ≡ releasing c.args.self.now.settings (entry_of c.args.claim.entry).id (state c.args.self.now.held (g.S.CompactionsStore.meaning c.args.store.now) c.args.clock.now ms)
+    whole : releasing (settings_of g.E.CompactionExecutor.places.count c.start.new.self) (number c.entry.result.now.id) (state (held_of (g.E.CompactionExecutor.jobs c.start.new.self.executor).list c.start.new.self) (g.S.CompactionsStore.meaning c.args.store.now) c.args.clock.now ms) ≡ releasing (settings_of g.E.CompactionExecutor.places.count c.args.self.now) (entry_of c.args.claim.entry).id (state (held_of (g.E.CompactionExecutor.jobs c.args.self.now.executor).list c.args.self.now) (g.S.CompactionsStore.meaning c.args.store.now) c.args.clock.now ms)
     whole =
-        ap (λ s. releasing s (number c.entry.result.now.id) (state c.start.new.self.held (g.S.CompactionsStore.meaning c.args.store.now) c.args.clock.now ms)) c.start.ensures.settings
-        ∙ ap (λ i. releasing c.args.self.now.settings i (state c.start.new.self.held (g.S.CompactionsStore.meaning c.args.store.now) c.args.clock.now ms)) same_id
-        ∙ ap (λ h. releasing c.args.self.now.settings (entry_of c.args.claim.entry).id (state h (g.S.CompactionsStore.meaning c.args.store.now) c.args.clock.now ms)) same_held
+        ap (λ s. releasing s (number c.entry.result.now.id) (state (held_of (g.E.CompactionExecutor.jobs c.start.new.self.executor).list c.start.new.self) (g.S.CompactionsStore.meaning c.args.store.now) c.args.clock.now ms)) c.start.ensures.settings
+        ∙ ap (λ i. releasing (settings_of g.E.CompactionExecutor.places.count c.args.self.now) i (state (held_of (g.E.CompactionExecutor.jobs c.start.new.self.executor).list c.start.new.self) (g.S.CompactionsStore.meaning c.args.store.now) c.args.clock.now ms)) same_id
+        ∙ ap (λ h. releasing (settings_of g.E.CompactionExecutor.places.count c.args.self.now) (entry_of c.args.claim.entry).id (state h (g.S.CompactionsStore.meaning c.args.store.now) c.args.clock.now ms)) same_held
 
-    answered : settled_of c.release_claim.result ≡ (releasing c.args.self.now.settings (entry_of c.args.claim.entry).id (state c.args.self.now.held (g.S.CompactionsStore.meaning c.args.store.now) c.args.clock.now ms)).result
+    answered : settled_of c.release_claim.result ≡ (releasing (settings_of g.E.CompactionExecutor.places.count c.args.self.now) (entry_of c.args.claim.entry).id (state (held_of (g.E.CompactionExecutor.jobs c.args.self.now.executor).list c.args.self.now) (g.S.CompactionsStore.meaning c.args.store.now) c.args.clock.now ms)).result
     answered = c.release_claim.ensures.answer ms ∙ ap (λ x. x.result) whole
 
-    left_at : state c.release_claim.new.self.held (g.S.CompactionsStore.meaning c.release_claim.new.store) c.release_claim.new.clock ms ≡ (releasing c.args.self.now.settings (entry_of c.args.claim.entry).id (state c.args.self.now.held (g.S.CompactionsStore.meaning c.args.store.now) c.args.clock.now ms)).state
+    left_at : state (held_of (g.E.CompactionExecutor.jobs c.release_claim.new.self.executor).list c.release_claim.new.self) (g.S.CompactionsStore.meaning c.release_claim.new.store) c.release_claim.new.clock ms ≡ (releasing (settings_of g.E.CompactionExecutor.places.count c.args.self.now) (entry_of c.args.claim.entry).id (state (held_of (g.E.CompactionExecutor.jobs c.args.self.now.executor).list c.args.self.now) (g.S.CompactionsStore.meaning c.args.store.now) c.args.clock.now ms)).state
     left_at = c.release_claim.ensures.after ms ∙ ap (λ x. x.state) whole
 
 pub returns-in-Ok-release_claim-clause-step : goal.returns-in-Ok-release_claim-clause-step
 returns-in-Ok-release_claim-clause-step g c =
     let b = (goal.at.returns-in-Ok-release_claim-clause-step g c).After-release_claim in
-    let s = c.args.self.now.settings in
+    let s = settings_of g.E.CompactionExecutor.places.count c.args.self.now in
     let m = manifest_of c.args.manifest.now in
     let e = entry_of c.args.claim.entry in
-    let h = c.args.self.now.held in
+    let h = held_of (g.E.CompactionExecutor.jobs c.args.self.now.executor).list c.args.self.now in
     let st = g.S.CompactionsStore.meaning c.args.store.now in
     let ck = c.args.clock.now in
     let said = λ (ms : List (Result Manifest ℕ)). sym (ap settled_of c.in-Ok-release_claim.is) ∙ answered g b ms in
@@ -95,10 +96,10 @@ returns-in-Ok-release_claim-clause-step g c =
 pub returns-in-Err-release_claim-clause-step : goal.returns-in-Err-release_claim-clause-step
 returns-in-Err-release_claim-clause-step g c =
     let b = (goal.at.returns-in-Err-release_claim-clause-step g c).After-release_claim in
-    let s = c.args.self.now.settings in
+    let s = settings_of g.E.CompactionExecutor.places.count c.args.self.now in
     let m = manifest_of c.args.manifest.now in
     let e = entry_of c.args.claim.entry in
-    let h = c.args.self.now.held in
+    let h = held_of (g.E.CompactionExecutor.jobs c.args.self.now.executor).list c.args.self.now in
     let st = g.S.CompactionsStore.meaning c.args.store.now in
     let ck = c.args.clock.now in
     let f = fault_of c.in-Err-release_claim.fault in

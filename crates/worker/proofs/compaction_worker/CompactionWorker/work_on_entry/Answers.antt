@@ -7,7 +7,7 @@ use Rattle.worker_steps.specs.Effects.{Effect, Turn}
 use Rattle.worker_steps.specs.Releases.{Settled}
 use Rattle.worker.specs.EntryWorks.{entry_attempt}
 use Rattle.worker.specs.Settling.{settle_turn_of, settled_of}
-use Rattle.worker.specs.Worker.{Worker}
+use Rattle.worker.specs.Worker.{Worker, held_of, settings_of}
 use Rattle.worker.proofs.Retrying.{tried, tried_once}
 use Rattle.worker.proofs.compaction_worker.CompactionWorker.work_on_entry.Given as given
 use Rattle.worker.proofs.compaction_worker.CompactionWorker.work_on_entry.Goals as goal
@@ -16,17 +16,17 @@ use Rattle.worker.proofs.compaction_worker.CompactionWorker.work_on_entry.Goals.
 module _ (g : given.Over) (c : After-attempt_on_entry g) where
   -- the attempt, by the settings of the whole work
   abbrev attempt : List (Result Manifest ℕ) → Effect (Turn Settled)
-  attempt ms = entry_attempt (g.W.EntryWork.steps c.args.work.now) c.args.self.now.settings (number c.args.id) c.loop-attempt.attempt (state c.loop-attempt.self.held (g.S.CompactionsStore.meaning c.loop-attempt.store) c.loop-attempt.clock ms)
+  attempt ms = entry_attempt (g.W.EntryWork.steps c.args.work.now) (settings_of g.E.CompactionExecutor.places.count c.args.self.now) (number c.args.id) c.loop-attempt.attempt (state (held_of (g.E.CompactionExecutor.jobs c.loop-attempt.self.executor).list c.loop-attempt.self) (g.S.CompactionsStore.meaning c.loop-attempt.store) c.loop-attempt.clock ms)
 
   -- what it left, and what it answered
-  left_at : (ms : List (Result Manifest ℕ)) → state c.attempt_on_entry.new.self.held (g.S.CompactionsStore.meaning c.attempt_on_entry.new.store) c.attempt_on_entry.new.clock ms ≡ (attempt ms).state
-  left_at ms = c.attempt_on_entry.ensures.after ms ∙ ap (λ s. (entry_attempt (g.W.EntryWork.steps c.args.work.now) s (number c.args.id) c.loop-attempt.attempt (state c.loop-attempt.self.held (g.S.CompactionsStore.meaning c.loop-attempt.store) c.loop-attempt.clock ms)).state) c.loop-attempt.invariant.1
+  left_at : (ms : List (Result Manifest ℕ)) → state (held_of (g.E.CompactionExecutor.jobs c.attempt_on_entry.new.self.executor).list c.attempt_on_entry.new.self) (g.S.CompactionsStore.meaning c.attempt_on_entry.new.store) c.attempt_on_entry.new.clock ms ≡ (attempt ms).state
+  left_at ms = c.attempt_on_entry.ensures.after ms ∙ ap (λ s. (entry_attempt (g.W.EntryWork.steps c.args.work.now) s (number c.args.id) c.loop-attempt.attempt (state (held_of (g.E.CompactionExecutor.jobs c.loop-attempt.self.executor).list c.loop-attempt.self) (g.S.CompactionsStore.meaning c.loop-attempt.store) c.loop-attempt.clock ms)).state) c.loop-attempt.invariant.1
 
   said_at : (ms : List (Result Manifest ℕ)) → settle_turn_of c.attempt_on_entry.result ≡ (attempt ms).result
-  said_at ms = c.attempt_on_entry.ensures.answer ms ∙ ap (λ s. (entry_attempt (g.W.EntryWork.steps c.args.work.now) s (number c.args.id) c.loop-attempt.attempt (state c.loop-attempt.self.held (g.S.CompactionsStore.meaning c.loop-attempt.store) c.loop-attempt.clock ms)).result) c.loop-attempt.invariant.1
+  said_at ms = c.attempt_on_entry.ensures.answer ms ∙ ap (λ s. (entry_attempt (g.W.EntryWork.steps c.args.work.now) s (number c.args.id) c.loop-attempt.attempt (state (held_of (g.E.CompactionExecutor.jobs c.loop-attempt.self.executor).list c.loop-attempt.self) (g.S.CompactionsStore.meaning c.loop-attempt.store) c.loop-attempt.clock ms)).result) c.loop-attempt.invariant.1
 
-  within : c.loop-attempt.attempt ≤ c.args.self.now.settings.limit
-  within = let e = ap (λ (x : Worker _). x.settings.limit) c.self.view_is in omega (arith, e, c.loop-attempt-test.true)
+  within : c.loop-attempt.attempt ≤ c.args.self.now.limit
+  within = let e = ap (λ (x : Worker _). x.limit) c.self.view_is in omega (arith, e, c.loop-attempt-test.true)
 
 pub returns-in_err-settled : goal.returns-in_err-settled
 returns-in_err-settled g c =
